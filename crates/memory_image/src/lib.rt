@@ -1,0 +1,108 @@
+// The lent memory: which extents are refused, words, and fetching a descriptor. Start at `fetch`.
+// Meets specs/Extent.antt and specs/Words.antt. specs/Rule.antt has the form of every rule that reads
+// descriptors, and proofs/RunLaws.antt what holds of all of them.
+ghost use mathlib.Core.Path.{_≡_};
+ghost use Prim.Native.Nat.{_+_, _≤_};
+ghost use lib.ListN.{length};
+ghost use Rattle.memory_image.specs.Extent.{extentOf, fetchRule, refusal2};
+ghost use Rattle.memory_image.specs.Words.{bytes, joined, word, wordIn};
+
+// The most bytes that are lent.
+pub const MEMORY_MOST: u64 = 65536;
+
+// No address reaches this.
+pub const ADDRESS_TOP: u64 = 1 << 52;
+
+// A descriptor that was fetched.
+pub struct Piece {
+    pub address: u64,
+    pub length: u64,
+}
+
+// What a fetch finds: the offset of the descriptor in the memory, or that it is not there to be had.
+pub enum Fetched {
+    At(usize),
+    Outside,
+}
+
+// Refusal 2: base not a multiple of 64, length above 65,536, or base + length above 2^52.
+pub fn refused(base: u64, length: u64) -> bool
+    ensures { λ r. ⌜ r ≡ refusal2 (record { base = base; length = length }) ⌝ }
+{
+    if base % 64 != 0 {
+        return true;
+    }
+    if MEMORY_MOST < length {
+        return true;
+    }
+    ADDRESS_TOP - length < base
+}
+
+// Where a descriptor of so many bytes at an address lies, if it lies wholly in the memory and ends at
+// or below the limit. It computes no sum, so nothing can overflow.
+pub fn fetch(base: u64, memory: &[u8], limit: u64, address: u64, size: u64) -> Fetched
+    ensures { λ r. ⌜ r ≡ fetchRule (extentOf base (now (memory .entry))) limit address size ⌝ }
+{
+    let len = memory.len() as u64;
+    if address < base {
+        return Fetched::Outside;
+    }
+    if len < size {
+        return Fetched::Outside;
+    }
+    if len - size < address - base {
+        return Fetched::Outside;
+    }
+    if limit < size {
+        return Fetched::Outside;
+    }
+    if limit - size < address {
+        return Fetched::Outside;
+    }
+    let place = address - base;
+    Fetched::At(place as usize)
+}
+
+// The word at an offset, and 0 where it does not lie wholly in the memory.
+pub fn word_at(memory: &[u8], offset: usize) -> u64
+    ensures { λ r. ⌜ r ≡ wordIn (now (memory .entry)) offset ⌝ }
+{
+    if memory.len() < 8 {
+        return 0;
+    }
+    if memory.len() - 8 < offset {
+        return 0;
+    }
+    eight(memory, offset)
+}
+
+// Eight bytes, the lowest first, as one number.
+fn join(b0: u8, b1: u8, b2: u8, b3: u8, b4: u8, b5: u8, b6: u8, b7: u8) -> u64
+    ensures { λ r. ⌜ r ≡ joined b0 b1 b2 b3 b4 b5 b6 b7 ⌝ }
+{
+    b0 as u64
+        + b1 as u64 * (1 << 8)
+        + b2 as u64 * (1 << 16)
+        + b3 as u64 * (1 << 24)
+        + b4 as u64 * (1 << 32)
+        + b5 as u64 * (1 << 40)
+        + b6 as u64 * (1 << 48)
+        + b7 as u64 * (1 << 56)
+}
+
+// The word at an offset where one is.
+fn eight(memory: &[u8], at: usize) -> u64
+    requires { ⌜ at + 8 ≤ length (now memory) ⌝ }
+    ensures { λ r. ⌜ r ≡ word (bytes (now (memory .entry))) at ⌝ }
+{
+    join(
+        memory[at],
+        memory[at + 1],
+        memory[at + 2],
+        memory[at + 3],
+        memory[at + 4],
+        memory[at + 5],
+        memory[at + 6],
+        memory[at + 7],
+    )
+}
