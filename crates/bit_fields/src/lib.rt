@@ -7,30 +7,21 @@ ghost use Rattle.bit_fields.specs.Bits.{alignedDown, field, high, inBits
 pub fn power(k: u64) -> u64
     ensures { λ r. ⌜ r ≡ power k ⌝ }
 {
-    if 64 <= k {
-        return 0;
-    }
-    1 << k
+    if k < 64 { 1 << k } else { 0 }
 }
 
 // The k low bits of x: all of x from 64 on.
 pub fn low(x: u64, k: u64) -> u64
     ensures { λ r. ⌜ r ≡ low x k ⌝ }
 {
-    if 64 <= k {
-        return x;
-    }
-    x % power(k)
+    if k < 64 { x % power(k) } else { x }
 }
 
 // x without its k low bits, moved down: 0 from 64 on.
 pub fn high(x: u64, k: u64) -> u64
     ensures { λ r. ⌜ r ≡ high x k ⌝ }
 {
-    if 64 <= k {
-        return 0;
-    }
-    x >> k
+    if k < 64 { x >> k } else { 0 }
 }
 
 // The bits of x from the lowest on, width of them.

@@ -32,7 +32,7 @@ impl StreamId {
     pub fn new(n: u64) -> MadeStream
         ensures { λ r. ⌜ r ≡ madeStream n ⌝ }
     {
-        if n < 1 << Self::BITS {
+        if n < 1 << StreamId::BITS {
             let number = n as u32;
             MadeStream::Made(StreamId { number })
         } else {
@@ -48,7 +48,7 @@ impl SubstreamId {
     pub fn new(n: u64) -> MadeSubstream
         ensures { λ r. ⌜ r ≡ madeSubstream n ⌝ }
     {
-        if n < 1 << Self::BITS {
+        if n < 1 << SubstreamId::BITS {
             MadeSubstream::Made(SubstreamId { number: n })
         } else {
             MadeSubstream::TooLarge

@@ -2,3 +2,4 @@
 pub mod ExtentLaws
 pub mod WordsLaws
 pub mod RunLaws
+pub mod Claims

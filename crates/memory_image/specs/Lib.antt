@@ -2,3 +2,4 @@
 pub mod Extent
 pub mod Words
 pub mod Rule
+pub mod Claims

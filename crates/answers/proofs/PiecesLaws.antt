@@ -1,0 +1,125 @@
+-- A rule run with a list that is handed on, for every rule.
+--     push-room, push-full           one piece more, where there is room and where there is none
+--     run-on-done, run-on-had, run-on-fault    a step of a run
+--     run-on-then                    one rule and then another: the second goes on with the first one's list
+--     pieces-none, pieces-more       the list of none; and of one more
+--     run-on-run                     from a list, what `run` gives, and its list after that one
+-- Assumes: nothing.
+use Prim.Native.Nat.{ℕ, zero, suc, _+_, _-_, _*_, _≤_, _<_}
+use native.Mathlib.Omega.{arith}
+use mathlib.Core.Path.{_≡_, refl, sym, ap, _∙_}
+use mathlib.Core.Bool.{Bool, true, false}
+use mathlib.Core.List.{List, [], _∷_, _++_, append-assoc, append-nil}
+use borrow.Author.Tests.{lt-ltb, le-ltb}
+use lib.ListN.{length, set, length-append}
+use Rattle.memory_image.specs.Extent.{Extent, fetched}
+use Rattle.memory_image.specs.Rule.{Rule, done, fetch, Ran, piece, wordsAt, run, andThen}
+use Rattle.memory_image.specs.declared.Piece.{Piece}
+use Rattle.memory_image.proofs.RunLaws.{run-done, run-had, run-fault}
+use Rattle.answers.specs.Pieces.{none, pushed, padded, piecesOf, RanOn, runOn}
+use Rattle.answers.specs.declared.Pieces.{Pieces}
+
+module _ (l : Pieces) (p : Piece) where
+  pub push-room : l .count < 4 → record { count = l .count + 1; piece = set (l .piece) (l .count) p } ≡ pushed l p
+  unfolding pushed
+  push-room room = simp (lt-ltb _ _ room)
+
+  pub push-full : 4 ≤ l .count → l ≡ pushed l p
+  unfolding pushed
+  push-full full = simp (le-ltb _ _ full)
+
+-- a step of a run
+module _ {A : Type 0} (e : Extent) (limit : ℕ) (f : ℕ → ℕ) where
+  pub run-on-done : (x : A) (l : Pieces) → runOn e limit f (done x) l ≡ record { answer = x; list = l }
+  unfolding runOn
+  run-on-done x l = refl
+
+  module _ (address n : ℕ) (fault : Rule A) (rest : (ℕ → ℕ) → Rule A) (l : Pieces) where
+    pub run-on-had :
+        fetched e limit address (8 * n) ≡ true
+        → runOn e limit f (fetch address n fault rest) l
+        ≡ runOn e limit f (rest (wordsAt f (address - e .base) n)) (pushed l (piece address n))
+    unfolding runOn
+    run-on-had test = rw test
+
+    pub run-on-fault :
+        fetched e limit address (8 * n) ≡ false → runOn e limit f (fetch address n fault rest) l ≡ runOn e limit f fault l
+    unfolding runOn
+    run-on-fault test = rw test
+
+module _ {A B : Type 0} (e : Extent) (limit : ℕ) (f : ℕ → ℕ) (next : A → Rule B) where
+  -- what one rule and then another gives, from a list on
+  Chained : Rule A → Pieces → Type 0
+  Chained t l =
+      runOn e limit f (andThen t next) l ≡ runOn e limit f (next (runOn e limit f t l .answer)) (runOn e limit f t l .list)
+
+  pub run-on-then :
+      (t : Rule A) (l : Pieces)
+      → runOn e limit f (andThen t next) l
+      ≡ runOn e limit f (next (runOn e limit f t l .answer)) (runOn e limit f t l .list)
+  unfolding andThen Chained
+  run-on-then (done x) l = rw (run-on-done e limit f x l)
+  run-on-then (fetch address n fault rest) l =
+      go (fetched e limit address (8 * n)) refl
+      (run-on-then (rest (wordsAt f (address - e .base) n)) (pushed l (piece address n))) (run-on-then fault l)
+    where
+      go :
+          (b : Bool) → fetched e limit address (8 * n) ≡ b
+          → Chained (rest (wordsAt f (address - e .base) n)) (pushed l (piece address n)) → Chained fault l
+          → Chained (fetch address n fault rest) l
+      go true test on out =
+          rw (
+            run-on-had e limit f address n fault rest l test,
+            run-on-had e limit f address n (andThen fault next) (λ w. andThen (rest w) next) l test,
+          ) on
+      go false test on out =
+          rw (
+            run-on-fault e limit f address n fault rest l test,
+            run-on-fault e limit f address n (andThen fault next) (λ w. andThen (rest w) next) l test,
+          ) out
+
+-- a list as a count and an array
+padded-more : (m : ℕ) (l : List Piece) (p : Piece) → length l < m → set (padded m l) (length l) p ≡ padded m (l ++ (p ∷ []))
+padded-more zero l p room = absurd (omega arith)
+padded-more (suc m) [] p room = refl
+padded-more (suc m) (q ∷ l) p room = ap (λ (x : List Piece). q ∷ x) (padded-more m l p (omega arith))
+
+pub pieces-none : none ≡ piecesOf []
+unfolding none piecesOf
+pieces-none = refl
+
+pub pieces-more : (l : List Piece) (p : Piece) → length l < 4 → pushed (piecesOf l) p ≡ piecesOf (l ++ (p ∷ []))
+unfolding piecesOf
+pieces-more l p room = sym (push-room (piecesOf l) p room) ∙ rw (padded-more 4 l p room, length-append)
+
+abbrev pub grown : {A : Type 0} → List Piece → Ran A → RanOn A
+grown l r = record { answer = r .answer; list = piecesOf (l ++ r .list) }
+
+module _ {A : Type 0} (e : Extent) (limit : ℕ) (f : ℕ → ℕ) where
+  -- what a run from a list is to give, where its pieces have room
+  Grows : Rule A → List Piece → Type 0
+  Grows t l = length l + length (run e limit f t .list) ≤ 4 → runOn e limit f t (piecesOf l) ≡ grown l (run e limit f t)
+
+  pub run-on-run :
+      (t : Rule A) (l : List Piece) → length l + length (run e limit f t .list) ≤ 4
+      → runOn e limit f t (piecesOf l) ≡ grown l (run e limit f t)
+  unfolding Grows
+  run-on-run (done x) l room = rw (run-on-done e limit f x, run-done e limit f x, append-nil)
+  run-on-run (fetch address n fault rest) l room =
+      go (fetched e limit address (8 * n)) refl
+      (run-on-run (rest (wordsAt f (address - e .base) n)) (l ++ (piece address n ∷ []))) (run-on-run fault l) room
+    where
+      go :
+          (b : Bool) → fetched e limit address (8 * n) ≡ b
+          → Grows (rest (wordsAt f (address - e .base) n)) (l ++ (piece address n ∷ [])) → Grows fault l
+          → Grows (fetch address n fault rest) l
+      go true test on out room =
+          let room′ = rw (run-had e limit f address n fault rest test) at room in
+          rw (
+            run-on-had e limit f address n fault rest (piecesOf l) test,
+            run-had e limit f address n fault rest test,
+            pieces-more l (piece address n) (omega arith),
+          ) (on (rw length-append (omega arith)) ∙ rw append-assoc)
+      go false test on out room =
+          rw (run-on-fault e limit f address n fault rest (piecesOf l) test, run-fault e limit f address n fault rest test)
+          (out (rw (run-fault e limit f address n fault rest test) at room))

@@ -1,0 +1,101 @@
+// What a lookup answers, and the list of the descriptors that it read. Start at `Outcome`.
+// Meets specs/Outcome.antt, which has the numbers of 01, and specs/Pieces.antt.
+ghost use mathlib.Core.Path.{_≡_};
+ghost use Rattle.answers.specs.Outcome.{recorded};
+ghost use Rattle.answers.specs.Pieces.{none, pushed};
+use memory_image::Piece;
+use registers::Registers;
+
+// The events, by the standard's names.
+pub const C_BAD_STREAMID: u64 = 0x02;
+
+pub const F_STE_FETCH: u64 = 0x03;
+
+pub const C_BAD_STE: u64 = 0x04;
+
+pub const F_STREAM_DISABLED: u64 = 0x06;
+
+pub const C_BAD_SUBSTREAMID: u64 = 0x08;
+
+pub const F_CD_FETCH: u64 = 0x09;
+
+pub const C_BAD_CD: u64 = 0x0A;
+
+// What is not served: stage 2, VMSAv8-32, StreamWorlds above EL1.
+pub const STAGE_2: u64 = 20;
+
+pub const VMSA_32: u64 = 21;
+
+pub const STREAM_WORLD: u64 = 22;
+
+// A stage 1 configuration: where it was found, and the fields of its CD as they are stored. `ips` is the
+// effective size in bits.
+pub struct Translation {
+    pub ste: u64,
+    pub cd: u64,
+    pub asid: u64,
+    pub t0sz: u64,
+    pub tg0: u64,
+    pub epd0: u64,
+    pub ips: u64,
+    pub ttb0: u64,
+}
+
+pub enum Outcome {
+    Translate(Translation),
+    // By the STE at this address.
+    Bypass(u64),
+    // Of every stream, while the SMMU is off.
+    BypassGlobal,
+    // With this event.
+    Abort(u64),
+    Quiet,
+    // The named case that is not served.
+    Unserved(u64),
+}
+
+// Whether an abort's event is recorded: 0x02 only if CR2.RECINVSID is 1.
+pub fn is_recorded(registers: Registers, event: u64) -> bool
+    ensures { λ r. ⌜ r ≡ recorded registers event ⌝ }
+{
+    if event == C_BAD_STREAMID {
+        return registers.rec_inv_sid() != 0;
+    }
+    true
+}
+
+// The most descriptors that a lookup reads.
+pub const PIECES_MOST: usize = 4;
+
+// The descriptors read, in order: the first `count` of the array, and zeros after them.
+pub struct Pieces {
+    pub count: u64,
+    pub piece: [Piece; PIECES_MOST],
+}
+
+impl Pieces {
+    pub fn none() -> Self
+        ensures { λ r. ⌜ r ≡ none ⌝ }
+    {
+        let nothing = Piece {
+            address: 0,
+            length: 0,
+        };
+        let piece = [nothing; PIECES_MOST];
+        Pieces { count: 0, piece }
+    }
+
+    // The list with one piece more, or as it is where it is full.
+    pub fn push(self, piece: Piece) -> Self
+        ensures { λ r. ⌜ r ≡ pushed self piece ⌝ }
+    {
+        let n = self.count as usize;
+        if n < PIECES_MOST {
+            let mut list = self;
+            list.piece[n] = piece;
+            list.count = list.count + 1;
+            return list;
+        }
+        self
+    }
+}
