@@ -6,8 +6,10 @@
 --     alignedDown  x with its k low bits taken as 0
 --     power        2^k as 64 bits hold it
 --     inBits       a number of k bits: below 2^k
+--     PartOf       a number that is so much, and so no more than x: what a caller's sums lean on
 -- Assumes: nothing.
-use Prim.Native.Nat.{ℕ, _+_, _-_, _/_, _%_, _^_}
+use Prim.Native.Nat.{ℕ, _+_, _-_, _/_, _%_, _^_, _≤_}
+use mathlib.Core.Path.{_≡_}
 use mathlib.Core.Bool.{Bool}
 use lib.Dec.{ltb}
 
@@ -34,3 +36,7 @@ power k = 2 ^ k % 2 ^ 64
 
 abbrev pub inBits : ℕ → ℕ → Bool
 inBits x k = ltb x (2 ^ k)
+
+pub record PartOf (x value r : ℕ) : Type 0 where
+  pub is : r ≡ value
+  pub most : r ≤ x

@@ -1,7 +1,9 @@
-// Bits of numbers: a field of a word, powers of two, aligning down. Start at `field`.
+// Bits of numbers: a field of a word, powers of two, aligning down; and the three steps of arithmetic that sizes take.
+// Start at `field`.
 // Meets specs/Bits.antt, for every number of bits: nothing has to be checked first.
 ghost use mathlib.Core.Path.{_≡_};
-ghost use Rattle.bit_fields.specs.Bits.{alignedDown, field, high, inBits, low, power};
+ghost use Prim.Native.Nat.{_-_, min, max};
+ghost use Rattle.bit_fields.specs.Bits.{PartOf, alignedDown, field, high, inBits, low, power};
 
 // 2^k, and 0 from 64 on, where 64 bits cannot hold it.
 pub fn power(k: u64) -> u64
@@ -12,14 +14,14 @@ pub fn power(k: u64) -> u64
 
 // The k low bits of x: all of x from 64 on.
 pub fn low(x: u64, k: u64) -> u64
-    ensures { λ r. ⌜ r ≡ low x k ⌝ }
+    ensures { λ r. ⌜ PartOf x (low x k) r ⌝ }
 {
     if k < 64 { x % power(k) } else { x }
 }
 
 // x without its k low bits, moved down: 0 from 64 on.
 pub fn high(x: u64, k: u64) -> u64
-    ensures { λ r. ⌜ r ≡ high x k ⌝ }
+    ensures { λ r. ⌜ PartOf x (high x k) r ⌝ }
 {
     if k < 64 { x >> k } else { 0 }
 }
@@ -34,7 +36,7 @@ pub fn field(x: u64, lowest: u64, width: u64) -> u64
 
 // x with its k low bits taken as 0.
 pub fn aligned_down(x: u64, k: u64) -> u64
-    ensures { λ r. ⌜ r ≡ alignedDown x k ⌝ }
+    ensures { λ r. ⌜ PartOf x (alignedDown x k) r ⌝ }
 {
     x - low(x, k)
 }
@@ -44,4 +46,23 @@ pub fn in_bits(x: u64, k: u64) -> bool
     ensures { λ r. ⌜ r ≡ inBits x k ⌝ }
 {
     high(x, k) == 0
+}
+
+pub fn smaller(a: u64, b: u64) -> u64
+    ensures { λ r. ⌜ r ≡ min a b ⌝ }
+{
+    if a < b { a } else { b }
+}
+
+pub fn larger(a: u64, b: u64) -> u64
+    ensures { λ r. ⌜ r ≡ max a b ⌝ }
+{
+    if a < b { b } else { a }
+}
+
+// a - b, and 0 where b is larger.
+pub fn minus(a: u64, b: u64) -> u64
+    ensures { λ r. ⌜ r ≡ a - b ⌝ }
+{
+    if b < a { a - b } else { 0 }
 }

@@ -1,5 +1,6 @@
 -- Laws of specs/, for this crate and those above it.
 pub mod ExtentLaws
 pub mod WordsLaws
+pub mod DescriptorLaws
 pub mod RunLaws
 pub mod Claims

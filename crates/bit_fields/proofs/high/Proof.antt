@@ -1,7 +1,7 @@
--- Proof of `bit_fields::high`: from 64 on no bit is left.
+-- Proof of `bit_fields::high`: a shift, and from 64 on nothing.
 -- Assumes: nothing.
 use borrow.Author.Needs.{needs}
-use Rattle.bit_fields.proofs.BitsLaws.{high-none}
+use Rattle.bit_fields.proofs.BitsLaws.{high-by, high-none}
 use Rattle.bit_fields.proofs.high.Statement.{statement}
 use Rattle.bit_fields.proofs.high.Tie as tie
 
@@ -9,7 +9,7 @@ shr-result : tie.Need-shr-result
 shr-result c = search needs
 
 returns : tie.Need-returns
-returns c = search needs
+returns c = search (needs, high-by)
 
 returns-2 : tie.Need-returns-2
 returns-2 c = search (needs, high-none 64)

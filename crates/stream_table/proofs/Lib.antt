@@ -1,0 +1,3 @@
+-- Laws of specs/StreamTable.antt.
+pub mod AddressLaws
+pub mod StreamLaws

@@ -1,0 +1,92 @@
+-- Each way out of the walk, on plain values.
+--     two-fault, two-read                            the L1STD isn't fetched; it is
+--     find-off, find-past, find-linear, find-two     steps 1 to 4
+-- Assumes: nothing.
+use Prim.Native.Nat.{ℕ, _+_, _-_, _*_, _^_, _≤_, _<_}
+use native.Mathlib.Omega.{arith}
+use mathlib.Core.Path.{_≡_, refl, sym, ap, _∙_}
+use mathlib.Core.Bool.{Bool, true, false, not}
+use mathlib.Core.List.{List}
+use borrow.Author.Tests.{eq-eqb, ne-eqb, le-leb, lt-leb, ltb-false, ltb-true, not-true, not-false}
+use lib.Dec.{ltb}
+use Rattle.bit_fields.specs.Bits.{inBits}
+use Rattle.bit_fields.specs.Choice.{if_then_else_}
+use Rattle.registers.specs.Fields.{smmuEn}
+use Rattle.registers.specs.Fields as fields
+use Rattle.registers.specs.declared.Registers.{Registers}
+use Rattle.memory_image.specs.Extent.{extentOf, fetchRule}
+use Rattle.memory_image.specs.Words.{bytes, wordIn}
+use Rattle.memory_image.specs.Rule.{Rule, done, fetch}
+use Rattle.memory_image.specs.declared.Piece.{Piece}
+use Rattle.memory_image.specs.declared.Fetched.{Fetched}
+use Rattle.memory_image.specs.declared.Fetched.the-variants.{At, Outside}
+use Rattle.memory_image.proofs.ExtentLaws.{outside}
+use Rattle.memory_image.proofs.DescriptorLaws.{had-at, first-word}
+use Rattle.answers.specs.Pieces.{pushed, runOn}
+use Rattle.answers.specs.declared.Outcome.{Outcome}
+use Rattle.answers.specs.declared.Outcome.the-variants.{Abort}
+use Rattle.answers.specs.declared.Pieces.{Pieces}
+use Rattle.answers.proofs.PiecesLaws.{run-on-done, run-on-had, run-on-fault}
+use Rattle.stream_table.specs.StreamTable.{switchedOff, log2, linear, linearAt, splitOf, l1stdAt, leafRule, twoLevelRule, streamRule, walkedOn}
+use Rattle.stream_table.specs.declared.Found.{Found}
+use Rattle.stream_table.specs.declared.Found.the-variants.{Ste, Ended}
+use Rattle.stream_table.specs.declared.Walked.{Walked}
+
+module _ (base : ℕ) (memory : List ℕ) (limit : ℕ) (r : Registers) (stream : ℕ) (l : Pieces) where
+  -- a rule that is done adds nothing
+  walked-done : (x : Found) → record { found = x; list = l } ≡ walkedOn base memory limit (done x) l
+  unfolding walkedOn
+  walked-done x = rw (run-on-done (extentOf base memory) limit (bytes memory) x l)
+
+  module _ (split : ℕ) {address : ℕ} (at : address ≡ l1stdAt r split stream) {said : Fetched}
+      (is : said ≡ fetchRule (extentOf base memory) limit address 8) where
+    pub two-fault : said ≡ Outside → record { found = Ended (Abort 3); list = l } ≡ walkedOn base memory limit (twoLevelRule r split stream) l
+    unfolding walkedOn twoLevelRule
+    two-fault out =
+        let no = outside (extentOf base memory) limit address 8 is out in
+        rw (← at, run-on-fault _ _ _ _ _ _ _ _ no, run-on-done)
+
+    pub two-read :
+        {place word : ℕ} {found : Found} {longer : Pieces} → said ≡ At place → word ≡ wordIn memory place
+        → found ≡ leafRule split word stream → longer ≡ pushed l (record { address = address; length = 8 })
+        → record { found = found; list = longer } ≡ walkedOn base memory limit (twoLevelRule r split stream) l
+    unfolding walkedOn twoLevelRule
+    two-read had read leaf push =
+        let yes = had-at base memory limit address 1 is had in
+        let first = first-word base memory limit address 1 is had (omega arith) in
+        rw (leaf, push, ← at, run-on-had _ _ _ _ _ _ _ _ (yes .test), run-on-done, read, first)
+
+  module _ {on : ℕ} (enabled : on ≡ smmuEn r) where
+    pub find-off :
+        on ≡ 0 → {outcome : Outcome} → outcome ≡ switchedOff r
+        → record { found = Ended outcome; list = l } ≡ walkedOn base memory limit (streamRule r stream) l
+    unfolding streamRule
+    find-off off is = rw is (simp (← enabled, eq-eqb _ _ off) (walked-done (Ended (switchedOff r))))
+
+    module _ (set : on ≡ 0 → ⊥) {size : ℕ} (effective : size ≡ log2 r) {fits : Bool} (test : fits ≡ inBits stream size) where
+      pub find-past :
+          not fits ≡ true → record { found = Ended (Abort 2); list = l } ≡ walkedOn base memory limit (streamRule r stream) l
+      unfolding streamRule
+      find-past out =
+          let no : ltb stream (2 ^ log2 r) ≡ false = ap (inBits stream) (sym effective) ∙ sym test ∙ not-true fits out in
+          simp (← enabled, ne-eqb _ _ set, le-leb (2 ^ log2 r) stream (ltb-false stream (2 ^ log2 r) no)) (walked-done (Ended (Abort 2)))
+
+      module _ (inside : not fits ≡ false) {is-linear : Bool} (kind : is-linear ≡ linear r) where
+        to-kind :
+            streamRule r stream
+            ≡ (if linear r then done (Ste (linearAt r stream)) else twoLevelRule r (splitOf (fields.split r)) stream)
+        unfolding streamRule
+        to-kind =
+            let yes : ltb stream (2 ^ log2 r) ≡ true = ap (inBits stream) (sym effective) ∙ sym test ∙ not-false fits inside in
+            simp (← enabled, ne-eqb _ _ set, lt-leb (2 ^ log2 r) stream (ltb-true stream (2 ^ log2 r) yes))
+
+        pub find-linear :
+            is-linear ≡ true → {address : ℕ} → address ≡ linearAt r stream
+            → record { found = Ste address; list = l } ≡ walkedOn base memory limit (streamRule r stream) l
+        find-linear flat at = rw (at, to-kind, ← kind, flat) (walked-done (Ste (linearAt r stream)))
+
+        pub find-two :
+            is-linear ≡ false → {code split : ℕ} {walked : Walked} → code ≡ fields.split r → split ≡ splitOf code
+            → walked ≡ walkedOn base memory limit (twoLevelRule r split stream) l
+            → walked ≡ walkedOn base memory limit (streamRule r stream) l
+        find-two deep is-code is-split walk = rw (to-kind, ← kind, deep, ← is-code, ← is-split) walk

@@ -1,0 +1,189 @@
+// Where a stream's STE lies. Start at `find_ste`.
+// Meets specs/StreamTable.antt; reads only through `memory_image::fetch`.
+ghost use mathlib.Core.Path.{_≡_};
+ghost use Rattle.stream_table.specs.StreamTable.{holds, l1stdAt, leafRule, linear, linearAt, log2, splitOf, streamRule, switchedOff, twoLevelRule, walkedOn};
+use answers::Outcome;
+use answers::Pieces;
+use bit_fields::aligned_down;
+use bit_fields::field;
+use bit_fields::high;
+use bit_fields::in_bits;
+use bit_fields::larger;
+use bit_fields::low;
+use bit_fields::minus;
+use bit_fields::power;
+use bit_fields::smaller;
+use ids::StreamId;
+use memory_image::Fetched;
+use memory_image::Piece;
+use registers::Registers;
+
+// Where the STE is, or how the lookup ends before there is one.
+pub enum Found {
+    Ste(u64),
+    Ended(Outcome),
+}
+
+pub struct Walked {
+    pub found: Found,
+    pub list: Pieces,
+}
+
+// What an L1STD's Span says of its leaf.
+pub enum Leaf {
+    Invalid,
+    Holds(u64),
+}
+
+// Step 1: what every stream gets while SMMUEN is 0.
+fn switched_off(registers: Registers) -> Outcome
+    ensures { λ r. ⌜ r ≡ switchedOff registers ⌝ }
+{
+    if registers.abort() == 1 {
+        Outcome::Quiet
+    } else {
+        Outcome::BypassGlobal
+    }
+}
+
+// Step 2: the smaller of LOG2SIZE and SIDSIZE.
+fn log2(registers: Registers) -> u64
+    ensures { λ r. ⌜ r ≡ log2 registers ⌝ }
+{
+    smaller(registers.log2size(), registers.sid_size())
+}
+
+// Step 3: whether the table is linear, and where the STE is then.
+fn is_linear(registers: Registers) -> bool
+    ensures { λ r. ⌜ r ≡ linear registers ⌝ }
+{
+    if registers.st_level() == 0 {
+        return true;
+    }
+    registers.fmt() != 1
+}
+
+fn linear_at(registers: Registers, stream: StreamId) -> u64
+    ensures { λ r. ⌜ r ≡ linearAt registers (stream .number) ⌝ }
+{
+    let table = aligned_down(registers.addr(), log2(registers) + 6);
+    table + 64 * (stream.number as u64)
+}
+
+// Step 4: how many low bits of a StreamID choose in the leaf.
+fn split_of(code: u64) -> u64
+    ensures { λ r. ⌜ r ≡ splitOf code ⌝ }
+{
+    match code {
+        6 => 6,
+        8 => 8,
+        10 => 10,
+        _ => 6,
+    }
+}
+
+fn l1std_at(registers: Registers, split: u64, stream: StreamId) -> u64
+    ensures { λ r. ⌜ r ≡ l1stdAt registers split (stream .number) ⌝ }
+{
+    let above = minus(log2(registers) + 2, split);
+    let table = aligned_down(registers.addr(), larger(5, above) + 1);
+    table + 8 * high(stream.number as u64, split)
+}
+
+// Step 5: how many STEs a leaf holds, by its Span.
+fn stes(span: u64, split: u64) -> Leaf
+    ensures { λ r. ⌜ r ≡ holds span split ⌝ }
+{
+    match span {
+        0 => Leaf::Invalid,
+        1..=11 => {
+            if split < span - 1 {
+                return Leaf::Invalid;
+            }
+            Leaf::Holds(power(span - 1))
+        }
+        _ => Leaf::Invalid,
+    }
+}
+
+// Steps 5 and 6: where an L1STD says that the STE is.
+fn in_leaf(split: u64, l1std: u64, stream: StreamId) -> Found
+    ensures { λ r. ⌜ r ≡ leafRule split l1std (stream .number) ⌝ }
+{
+    let span = field(l1std, 0, 5);
+    let index = low(stream.number as u64, split);
+    let leaf = stes(span, split);
+    let Leaf::Holds(n) = leaf else {
+        return Found::Ended(Outcome::Abort(answers::C_BAD_STREAMID));
+    };
+    if n <= index {
+        return Found::Ended(Outcome::Abort(answers::C_BAD_STREAMID));
+    }
+    let pointer = field(l1std, 6, 50) * 64;
+    let table = aligned_down(pointer, 5 + span);
+    let address = table + 64 * index;
+    Found::Ste(address)
+}
+
+// Steps 4 to 6: a two-level table, split at so many bits.
+fn two_level(
+    registers: Registers,
+    split: u64,
+    base: u64,
+    memory: &[u8],
+    limit: u64,
+    stream: StreamId,
+    list: Pieces,
+) -> Walked
+    ensures { λ r. ⌜ r ≡ walkedOn base (now (memory .entry)) limit (twoLevelRule registers split (stream .number)) list ⌝ }
+{
+    let address = l1std_at(registers, split, stream);
+    let Fetched::At(place) = memory_image::fetch(base, memory, limit, address, 8) else {
+        return Walked {
+            found: Found::Ended(Outcome::Abort(answers::F_STE_FETCH)),
+            list,
+        };
+    };
+    let l1std = memory_image::word_at(memory, place);
+    let longer = list.push(Piece { address, length: 8 });
+    let found = in_leaf(split, l1std, stream);
+    Walked {
+        found,
+        list: longer,
+    }
+}
+
+// Where the STE of a stream lies, or how the lookup ends before. What is read goes on the list.
+pub fn find_ste(
+    registers: Registers,
+    base: u64,
+    memory: &[u8],
+    limit: u64,
+    stream: StreamId,
+    list: Pieces,
+) -> Walked
+    ensures { λ r. ⌜ r ≡ walkedOn base (now (memory .entry)) limit (streamRule registers (stream .number)) list ⌝ }
+{
+    if registers.smmu_en() == 0 {
+        let outcome = switched_off(registers);
+        return Walked {
+            found: Found::Ended(outcome),
+            list,
+        };
+    }
+    if !in_bits(stream.number as u64, log2(registers)) {
+        return Walked {
+            found: Found::Ended(Outcome::Abort(answers::C_BAD_STREAMID)),
+            list,
+        };
+    }
+    if is_linear(registers) {
+        let address = linear_at(registers, stream);
+        return Walked {
+            found: Found::Ste(address),
+            list,
+        };
+    }
+    let split = split_of(registers.split());
+    two_level(registers, split, base, memory, limit, stream, list)
+}
