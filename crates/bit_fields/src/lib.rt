@@ -1,7 +1,8 @@
-// Bits of numbers: a field of a word, powers of two, aligning down; and the three steps of arithmetic that sizes take.
+// Bits of numbers: a field of a word, powers of two, aligning down; and small steps that rules take.
 // Start at `field`.
 // Meets specs/Bits.antt, for every number of bits: nothing has to be checked first.
 ghost use mathlib.Core.Path.{_≡_};
+ghost use mathlib.Core.Bool.{_&&_};
 ghost use Prim.Native.Nat.{_-_, min, max};
 ghost use Rattle.bit_fields.specs.Bits.{PartOf, alignedDown, field, high, inBits, low, power};
 
@@ -65,4 +66,11 @@ pub fn minus(a: u64, b: u64) -> u64
     ensures { λ r. ⌜ r ≡ a - b ⌝ }
 {
     if b < a { a - b } else { 0 }
+}
+
+// Whether both tests hold.
+pub fn both(a: bool, b: bool) -> bool
+    ensures { λ r. ⌜ r ≡ (a && b) ⌝ }
+{
+    if a { b } else { false }
 }

@@ -2,8 +2,9 @@
 --     bytes     the bytes of a lent memory, by their offset
 --     word      the word of eight bytes from an offset on
 --     wordIn    the same in a lent memory, and 0 where it does not lie wholly in it
+--     twoWords  a descriptor by its first two words
 -- Assumes: nothing.
-use Prim.Native.Nat.{ℕ, _+_, _*_, _^_}
+use Prim.Native.Nat.{ℕ, zero, suc, _+_, _*_, _^_}
 use mathlib.Core.List.{List}
 use lib.Dec.{leb}
 use lib.ListN.{getD, length}
@@ -24,3 +25,8 @@ unfoldable pub wordIn : List ℕ → ℕ → ℕ
 wordIn memory offset =
     if leb (offset + 8) (length memory) then word (bytes memory) offset
     else 0
+
+abbrev pub twoWords : ℕ → ℕ → ℕ → ℕ
+twoWords first second zero = first
+twoWords first second (suc zero) = second
+twoWords first second (suc (suc k)) = 0

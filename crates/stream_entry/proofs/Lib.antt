@@ -1,0 +1,3 @@
+-- Laws of specs/StreamEntry.antt.
+pub mod Stage1Laws
+pub mod EntryLaws

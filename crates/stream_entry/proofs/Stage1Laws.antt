@@ -1,0 +1,126 @@
+-- Steps 6 to 8, on plain values: a law for each way out.
+--     bad-max, bad-none, bad-format, bad-levels, bad-dss    step 6
+--     with-none, with-past, with-disabled, with-narrow, with-cd      step 8, with a SubstreamID
+--     without-alone, without-disabled, without-bypass, without-cd    step 8, without one
+--     stage-bad, stage-world, stage-without, stage-with     steps 6 to 8 in order
+-- Assumes: nothing.
+use Prim.Native.Nat.{ℕ, _^_, _≤_, _<_}
+use native.Mathlib.Omega.{arith}
+use mathlib.Core.Path.{_≡_, refl, sym, ap, _∙_}
+use mathlib.Core.Bool.{Bool, true, false, not, _&&_}
+use borrow.Author.Tests.{eq-eqb, ne-eqb, lt-ltb, le-ltb, le-leb, lt-leb, ltb-true, ltb-false, not-true, not-false}
+use lib.Dec.{eqb, leb, ltb}
+use lib.Pow.{pow-mono}
+use Rattle.bit_fields.specs.Bits.{field, inBits}
+use Rattle.ids.specs.declared.Substream.{Substream}
+use Rattle.ids.specs.declared.Substream.the-variants.{Without, With}
+use Rattle.ids.specs.declared.SubstreamId.{SubstreamId}
+use Rattle.registers.specs.Fields.{hyp, cd2l, ssidSize}
+use Rattle.registers.specs.declared.Registers.{Registers}
+use Rattle.answers.specs.declared.Outcome.the-variants.{Abort, Bypass, Unserved}
+use Rattle.stream_entry.specs.StreamEntry.{s1Fmt, s1CdMax, s1Dss, strw, badStage1, withId, without, stage1Rule}
+use Rattle.stream_entry.specs.declared.Entry.{Entry}
+use Rattle.stream_entry.specs.declared.Entry.the-variants.{Ended, Stage1}
+
+module _ (r : Registers) (w : ℕ → ℕ) {max size : ℕ} (is-max : max ≡ s1CdMax w) (is-size : size ≡ ssidSize r) where
+  pub bad-max : size < max → true ≡ badStage1 r w
+  unfolding badStage1
+  bad-max past = simp (← is-max, ← is-size, lt-ltb _ _ past)
+
+  module _ (fits : max ≤ size) where
+    pub bad-none : max ≡ 0 → false ≡ badStage1 r w
+    unfolding badStage1
+    bad-none none = let empty : max ≤ 0 = omega arith in simp (← is-max, ← is-size, le-ltb _ _ fits, le-ltb _ _ empty)
+
+    module _ (some : max ≡ 0 → ⊥) {format : ℕ} (is-format : format ≡ s1Fmt w) where
+      more : 0 < max
+      more = omega arith
+
+      pub bad-format : format ≡ 3 → true ≡ badStage1 r w
+      unfolding badStage1
+      bad-format three = simp (← is-max, ← is-size, le-ltb _ _ fits, lt-ltb _ _ more, ← is-format, eq-eqb _ _ three)
+
+      module _ (known : format ≡ 3 → ⊥) {levels : ℕ} (is-levels : levels ≡ cd2l r) {test : Bool}
+          (tested : test ≡ (not (eqb format 0) && eqb levels 0)) where
+        pub bad-levels : test ≡ true → true ≡ badStage1 r w
+        unfolding badStage1
+        bad-levels is-so =
+            simp
+            (← is-max, ← is-size, le-ltb _ _ fits, lt-ltb _ _ more, ← is-format, ne-eqb _ _ known, ← is-levels, ← tested, is-so)
+
+        pub bad-dss : test ≡ false → {dss : ℕ} → dss ≡ s1Dss w → eqb dss 3 ≡ badStage1 r w
+        unfolding badStage1
+        bad-dss is-not is-dss =
+            simp
+            (← is-max, ← is-size, le-ltb _ _ fits, lt-ltb _ _ more, ← is-format, ne-eqb _ _ known, ← is-levels, ← tested, is-not, ← is-dss)
+
+-- S1CDMax has five bits, so an index below 2^S1CDMax has 31
+pub with-narrow : (word n : ℕ) {max : ℕ} {fits : Bool} → max ≡ field word 59 5 → fits ≡ inBits n max → not fits ≡ false → n < 2 ^ 32
+with-narrow word n {max} {fits} is test inside =
+    let most : max ≤ 31 = omega arith in
+    let more : 2 ^ max ≤ 2 ^ 31 = pow-mono most in
+    let small : n < 2 ^ max = ltb-true n (2 ^ max) (sym test ∙ not-false fits inside) in
+    omega arith
+
+module _ (w : ℕ → ℕ) (n : ℕ) {max : ℕ} (is-max : max ≡ s1CdMax w) where
+  pub with-none : max ≡ 0 → Ended (Abort 8) ≡ withId w n
+  unfolding withId
+  with-none none = simp (← is-max, eq-eqb _ _ none)
+
+  module _ (some : max ≡ 0 → ⊥) {fits : Bool} (test : fits ≡ inBits n max) where
+    pub with-past : not fits ≡ true → Ended (Abort 8) ≡ withId w n
+    unfolding withId
+    with-past out =
+        let past : 2 ^ max ≤ n = ltb-false n (2 ^ max) (sym test ∙ not-true fits out) in
+        simp (← is-max, ne-eqb _ _ some, le-leb _ _ past)
+
+    module _ (inside : not fits ≡ false) {dss : ℕ} (is-dss : dss ≡ s1Dss w) {both : Bool}
+        (tested : both ≡ (eqb n 0 && eqb dss 2)) where
+      small : n < 2 ^ max
+      small = ltb-true n (2 ^ max) (sym test ∙ not-false fits inside)
+
+      pub with-disabled : both ≡ true → Ended (Abort 6) ≡ withId w n
+      unfolding withId
+      with-disabled is-so = simp (← is-max, ne-eqb _ _ some, lt-leb _ _ small, ← is-dss, ← tested, is-so)
+
+      pub with-cd : both ≡ false → Stage1 n ≡ withId w n
+      unfolding withId
+      with-cd is-not = simp (← is-max, ne-eqb _ _ some, lt-leb _ _ small, ← is-dss, ← tested, is-not)
+
+module _ (w : ℕ → ℕ) (address : ℕ) {max : ℕ} (is-max : max ≡ s1CdMax w) where
+  pub without-alone : max ≡ 0 → Stage1 0 ≡ without w address
+  unfolding without
+  without-alone none = simp (← is-max, eq-eqb _ _ none)
+
+  module _ (some : max ≡ 0 → ⊥) {dss : ℕ} (is-dss : dss ≡ s1Dss w) where
+    pub without-disabled : dss ≡ 0 → Ended (Abort 6) ≡ without w address
+    unfolding without
+    without-disabled zero = simp (← is-max, ne-eqb _ _ some, ← is-dss, zero)
+
+    pub without-bypass : dss ≡ 1 → Ended (Bypass address) ≡ without w address
+    unfolding without
+    without-bypass one = simp (← is-max, ne-eqb _ _ some, ← is-dss, one)
+
+    pub without-cd : (dss ≡ 0 → ⊥) → (dss ≡ 1 → ⊥) → Stage1 0 ≡ without w address
+    unfolding without
+    without-cd not-zero not-one = simp (← is-max, ne-eqb _ _ some, ← is-dss, ne-eqb _ _ not-zero, ne-eqb _ _ not-one)
+
+module _ (r : Registers) (substream : Substream) (address : ℕ) (w : ℕ → ℕ) {bad : Bool} (is-bad : bad ≡ badStage1 r w) where
+  pub stage-bad : bad ≡ true → Ended (Abort 4) ≡ stage1Rule r substream address w
+  unfolding stage1Rule
+  stage-bad is-so = simp (← is-bad, is-so)
+
+  module _ (good : bad ≡ false) {h world : ℕ} (is-hyp : h ≡ hyp r) (is-world : world ≡ strw w) {above : Bool}
+      (tested : above ≡ (eqb h 1 && not (eqb world 0))) where
+    pub stage-world : above ≡ true → Ended (Unserved 22) ≡ stage1Rule r substream address w
+    unfolding stage1Rule
+    stage-world is-so = simp (← is-bad, good, ← is-hyp, ← is-world, ← tested, is-so)
+
+    module _ (served : above ≡ false) {entry : Entry} where
+      pub stage-without : substream ≡ Without → entry ≡ without w address → entry ≡ stage1Rule r substream address w
+      unfolding stage1Rule
+      stage-without none is = rw (is, none) (simp (← is-bad, good, ← is-hyp, ← is-world, ← tested, served))
+
+      pub stage-with : {id : SubstreamId} → substream ≡ With id → entry ≡ withId w (id .number) → entry ≡ stage1Rule r substream address w
+      unfolding stage1Rule
+      stage-with one is = rw (is, one) (simp (← is-bad, good, ← is-hyp, ← is-world, ← tested, served))
