@@ -20,13 +20,12 @@ use Rattle.memory_image.specs.Rule.{Rule, done, fetch}
 use Rattle.memory_image.specs.declared.Piece.{Piece}
 use Rattle.memory_image.specs.declared.Fetched.{Fetched}
 use Rattle.memory_image.specs.declared.Fetched.the-variants.{At, Outside}
-use Rattle.memory_image.proofs.ExtentLaws.{outside}
-use Rattle.memory_image.proofs.DescriptorLaws.{had-at, first-word}
 use Rattle.answers.specs.Pieces.{pushed, runOn}
 use Rattle.answers.specs.declared.Outcome.{Outcome}
 use Rattle.answers.specs.declared.Outcome.the-variants.{Abort}
 use Rattle.answers.specs.declared.Pieces.{Pieces}
-use Rattle.answers.proofs.PiecesLaws.{run-on-done, run-on-had, run-on-fault}
+use Rattle.answers.proofs.PiecesLaws.{run-on-done}
+use Rattle.answers.proofs.FetchLaws.{level-fault, level-read}
 use Rattle.stream_table.specs.StreamTable.{switchedOff, log2, linear, linearAt, splitOf, l1stdAt, leafRule, twoLevelRule, streamRule, walkedOn}
 use Rattle.stream_table.specs.declared.Found.{Found}
 use Rattle.stream_table.specs.declared.Found.the-variants.{Ste, Ended}
@@ -42,9 +41,7 @@ module _ (base : ℕ) (memory : List ℕ) (limit : ℕ) (r : Registers) (stream 
       (is : said ≡ fetchRule (extentOf base memory) limit address 8) where
     pub two-fault : said ≡ Outside → record { found = Ended (Abort 3); list = l } ≡ walkedOn base memory limit (twoLevelRule r split stream) l
     unfolding walkedOn twoLevelRule
-    two-fault out =
-        let no = outside (extentOf base memory) limit address 8 is out in
-        rw (← at, run-on-fault _ _ _ _ _ _ _ _ no, run-on-done)
+    two-fault out = rw (← at, level-fault base memory limit address 1 is l _ (λ word. leafRule split word stream) out)
 
     pub two-read :
         {place word : ℕ} {found : Found} {longer : Pieces} → said ≡ At place → word ≡ wordIn memory place
@@ -52,9 +49,8 @@ module _ (base : ℕ) (memory : List ℕ) (limit : ℕ) (r : Registers) (stream 
         → record { found = found; list = longer } ≡ walkedOn base memory limit (twoLevelRule r split stream) l
     unfolding walkedOn twoLevelRule
     two-read had read leaf push =
-        let yes = had-at base memory limit address 1 is had in
-        let first = first-word base memory limit address 1 is had (omega arith) in
-        rw (leaf, push, ← at, run-on-had _ _ _ _ _ _ _ _ (yes .test), run-on-done, read, first)
+        rw
+        (← at, level-read base memory limit address 1 is l (Ended (Abort 3)) (λ word. leafRule split word stream) (omega arith) had read push, leaf)
 
   module _ {on : ℕ} (enabled : on ≡ smmuEn r) where
     pub find-off :

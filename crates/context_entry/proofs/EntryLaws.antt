@@ -1,0 +1,65 @@
+-- What a CD says, on plain values: a law for each way out.
+--     old-served, old-bad              AA64 0
+--     cd-invalid, cd-old, cd-bad, cd-off, cd-fits, cd-unfit    in order
+-- Assumes: nothing.
+use Prim.Native.Nat.{ℕ}
+use mathlib.Core.Path.{_≡_, refl, sym, ap, _∙_}
+use mathlib.Core.Bool.{Bool, true, false}
+use borrow.Author.Tests.{eq-eqb, ne-eqb}
+use Rattle.bit_fields.specs.Bits.{bits, field}
+use Rattle.registers.specs.Fields.{ttf}
+use Rattle.registers.specs.declared.Registers.{Registers}
+use Rattle.answers.specs.declared.Outcome.{Outcome}
+use Rattle.answers.specs.declared.Outcome.the-variants.{Abort, Translate, Unserved}
+use Rattle.answers.specs.declared.Translation.{Translation}
+use Rattle.context_entry.specs.ContextEntry.{v, aa64, epd0, ips, effectiveIps, halfFits, firstHalf, translated, vmsa32Rule, cdRule}
+use Rattle.context_entry.specs.declared.Half.{Half}
+
+module _ (r : Registers) {t : ℕ} (formats : t ≡ ttf r) {bit : ℕ} (is : bit ≡ bits 0 0 t) where
+  pub old-served : bit ≡ 1 → Unserved 21 ≡ vmsa32Rule r
+  unfolding vmsa32Rule
+  old-served set = simp (← formats, ← is, eq-eqb _ _ set)
+
+  pub old-bad : (bit ≡ 1 → ⊥) → Abort 10 ≡ vmsa32Rule r
+  unfolding vmsa32Rule
+  old-bad clear = simp (← formats, ← is, ne-eqb _ _ clear)
+
+module _ (r : Registers) (ste cd : ℕ) (w : ℕ → ℕ) {valid : ℕ} (is-v : valid ≡ v w) where
+  pub cd-invalid : valid ≡ 0 → Abort 10 ≡ cdRule r ste cd w
+  unfolding cdRule
+  cd-invalid clear = simp (← is-v, eq-eqb _ _ clear)
+
+  module _ (set : valid ≡ 0 → ⊥) {format : ℕ} (is-aa64 : format ≡ aa64 w) where
+    pub cd-old : format ≡ 0 → {outcome : Outcome} → outcome ≡ vmsa32Rule r → outcome ≡ cdRule r ste cd w
+    unfolding cdRule
+    cd-old old is = rw is (simp (← is-v, ne-eqb _ _ set, ← is-aa64, eq-eqb _ _ old))
+
+    module _ (new : format ≡ 0 → ⊥) {t bit : ℕ} (formats : t ≡ ttf r) (is-bit : bit ≡ bits 1 1 t) where
+      pub cd-bad : bit ≡ 0 → Abort 10 ≡ cdRule r ste cd w
+      unfolding cdRule
+      cd-bad clear = simp (← is-v, ne-eqb _ _ set, ← is-aa64, ne-eqb _ _ new, ← formats, ← is-bit, eq-eqb _ _ clear)
+
+      module _ (there : bit ≡ 0 → ⊥) {found : Translation} (is-found : found ≡ translated r ste cd w) {off : ℕ} (is-epd : off ≡ epd0 w) where
+        pub cd-off : off ≡ 1 → Translate found ≡ cdRule r ste cd w
+        unfolding cdRule
+        cd-off disabled =
+            rw is-found
+            (simp
+            (← is-v, ne-eqb _ _ set, ← is-aa64, ne-eqb _ _ new, ← formats, ← is-bit, ne-eqb _ _ there, ← is-epd, eq-eqb _ _ disabled))
+
+        module _ (walked : off ≡ 1 → ⊥) {half : Half} (is-half : half ≡ firstHalf w) {code size : ℕ} (is-code : code ≡ ips w)
+            (is-size : size ≡ effectiveIps r code) {fits : Bool} (is-fits : fits ≡ halfFits r size half) where
+          pub cd-fits : fits ≡ true → Translate found ≡ cdRule r ste cd w
+          unfolding cdRule
+          cd-fits good =
+              rw is-found
+              (simp
+              (← is-v, ne-eqb _ _ set, ← is-aa64, ne-eqb _ _ new, ← formats, ← is-bit, ne-eqb _ _ there, ← is-epd, ne-eqb _ _ walked,
+              ← is-half, ← is-code, ← is-size, ← is-fits, good))
+
+          pub cd-unfit : fits ≡ false → Abort 10 ≡ cdRule r ste cd w
+          unfolding cdRule
+          cd-unfit bad =
+              simp
+              (← is-v, ne-eqb _ _ set, ← is-aa64, ne-eqb _ _ new, ← formats, ← is-bit, ne-eqb _ _ there, ← is-epd, ne-eqb _ _ walked,
+              ← is-half, ← is-code, ← is-size, ← is-fits, bad)

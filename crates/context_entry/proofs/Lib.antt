@@ -1,0 +1,3 @@
+-- Laws of specs/ContextEntry.antt.
+pub mod HalfLaws
+pub mod EntryLaws

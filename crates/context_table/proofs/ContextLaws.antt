@@ -1,0 +1,82 @@
+-- Each way out of the walk to a CD, on plain values.
+--     l1cd-invalid, l1cd-points        what an L1CD says
+--     two-fault, two-read              the L1CD isn't fetched; it is
+--     find-alone, find-linear, find-two    S1CDMax 0; S1Fmt 0; the rest
+-- Assumes: nothing.
+use Prim.Native.Nat.{ℕ, _+_, _*_, _^_}
+use native.Mathlib.Omega.{arith}
+use mathlib.Core.Path.{_≡_, refl, sym, ap, _∙_}
+use mathlib.Core.List.{List}
+use borrow.Author.Tests.{eq-eqb, ne-eqb}
+use Rattle.bit_fields.specs.Bits.{bits, high, low}
+use Rattle.memory_image.specs.Extent.{extentOf, fetchRule}
+use Rattle.memory_image.specs.Words.{bytes, wordIn}
+use Rattle.memory_image.specs.Rule.{done}
+use Rattle.memory_image.specs.declared.Fetched.{Fetched}
+use Rattle.memory_image.specs.declared.Fetched.the-variants.{At, Outside}
+use Rattle.answers.specs.Pieces.{pushed}
+use Rattle.answers.specs.declared.Outcome.the-variants.{Abort}
+use Rattle.answers.specs.declared.Pieces.{Pieces}
+use Rattle.answers.proofs.PiecesLaws.{run-on-done}
+use Rattle.answers.proofs.FetchLaws.{level-fault, level-read}
+use Rattle.stream_entry.specs.StreamEntry.{s1Fmt, s1CdMax}
+use Rattle.context_table.specs.ContextTable.{leafBits, l1cdRule, twoLevelRule, contextRule, walkedOn}
+use Rattle.context_table.specs.declared.Found.{Found}
+use Rattle.context_table.specs.declared.Found.the-variants.{Cd, Ended}
+use Rattle.context_table.specs.declared.Walked.{Walked}
+
+module _ (leaf l1cd index : ℕ) {valid : ℕ} (is-v : valid ≡ bits 0 0 l1cd) where
+  pub l1cd-invalid : valid ≡ 0 → Ended (Abort 8) ≡ l1cdRule leaf l1cd index
+  unfolding l1cdRule
+  l1cd-invalid clear = simp (← is-v, eq-eqb _ _ clear)
+
+  pub l1cd-points :
+      (valid ≡ 0 → ⊥) → {table below : ℕ} → table ≡ bits 55 12 l1cd → below ≡ low index leaf
+      → Cd (table * 4096 + 64 * below) ≡ l1cdRule leaf l1cd index
+  unfolding l1cdRule
+  l1cd-points set pointer part = rw (pointer, part) (simp (← is-v, ne-eqb _ _ set))
+
+module _ (base : ℕ) (memory : List ℕ) (limit : ℕ) (l : Pieces) where
+  walked-done : (x : Found) → record { found = x; list = l } ≡ walkedOn base memory limit (done x) l
+  unfolding walkedOn
+  walked-done x = rw (run-on-done (extentOf base memory) limit (bytes memory) x l)
+
+  module _ (word leaf index : ℕ) {p above : ℕ} (pointer : p ≡ bits 55 6 word) (upper : above ≡ high index leaf) {said : Fetched}
+      (is : said ≡ fetchRule (extentOf base memory) limit (p * 64 + 8 * above) 8) where
+    pub two-fault :
+        said ≡ Outside
+        → record { found = Ended (Abort 9); list = l } ≡ walkedOn base memory limit (twoLevelRule (bits 55 6 word * 64) leaf index) l
+    unfolding walkedOn twoLevelRule
+    two-fault out =
+        rw
+        (← upper, ← pointer, level-fault base memory limit (p * 64 + 8 * above) 1 is l _ (λ entry. l1cdRule leaf entry index) out)
+
+    pub two-read :
+        {place entry : ℕ} {found : Found} {longer : Pieces} → said ≡ At place → entry ≡ wordIn memory place
+        → found ≡ l1cdRule leaf entry index → longer ≡ pushed l (record { address = p * 64 + 8 * above; length = 8 })
+        → record { found = found; list = longer } ≡ walkedOn base memory limit (twoLevelRule (bits 55 6 word * 64) leaf index) l
+    unfolding walkedOn twoLevelRule
+    two-read had read says push =
+        rw
+        (← upper, ← pointer, level-read base memory limit (p * 64 + 8 * above) 1 is l (Ended (Abort 9)) (λ entry. l1cdRule leaf entry index)
+        (omega arith) had read push, says)
+
+  module _ (w : ℕ → ℕ) (index : ℕ) {p max : ℕ} (pointer : p ≡ bits 55 6 (w 0)) (is-max : max ≡ s1CdMax w) where
+    pub find-alone : max ≡ 0 → record { found = Cd (p * 64); list = l } ≡ walkedOn base memory limit (contextRule w index) l
+    unfolding contextRule
+    find-alone none = rw pointer (simp (← is-max, eq-eqb _ _ none) (walked-done (Cd (bits 55 6 (w 0) * 64))))
+
+    module _ (some : max ≡ 0 → ⊥) {format : ℕ} (is-format : format ≡ s1Fmt w) where
+      pub find-linear :
+          format ≡ 0 → record { found = Cd (p * 64 + 64 * index); list = l } ≡ walkedOn base memory limit (contextRule w index) l
+      unfolding contextRule
+      find-linear flat =
+          rw pointer
+          (simp (← is-max, ne-eqb _ _ some, ← is-format, eq-eqb _ _ flat) (walked-done (Cd (bits 55 6 (w 0) * 64 + 64 * index))))
+
+      pub find-two :
+          (format ≡ 0 → ⊥) → {leaf : ℕ} {walked : Walked} → leaf ≡ leafBits format
+          → walked ≡ walkedOn base memory limit (twoLevelRule (bits 55 6 (w 0) * 64) leaf index) l
+          → walked ≡ walkedOn base memory limit (contextRule w index) l
+      unfolding contextRule
+      find-two deep is-leaf walk = rw (walk, is-leaf) (simp (← is-max, ne-eqb _ _ some, ← is-format, ne-eqb _ _ deep))

@@ -1,0 +1,2 @@
+-- Laws of specs/ContextTable.antt.
+pub mod ContextLaws
