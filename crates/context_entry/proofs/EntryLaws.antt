@@ -1,12 +1,14 @@
 -- What a CD says, on plain values: a law for each way out.
 --     old-served, old-bad              AA64 0
 --     cd-invalid, cd-old, cd-bad, cd-off, cd-fits, cd-unfit    in order
+--     cd-two       the first two words say it all
 -- Assumes: nothing.
 use Prim.Native.Nat.{ℕ}
 use mathlib.Core.Path.{_≡_, refl, sym, ap, _∙_}
 use mathlib.Core.Bool.{Bool, true, false}
 use borrow.Author.Tests.{eq-eqb, ne-eqb}
 use Rattle.bit_fields.specs.Bits.{bits, field}
+use Rattle.memory_image.specs.Words.{twoWords}
 use Rattle.registers.specs.Fields.{ttf}
 use Rattle.registers.specs.declared.Registers.{Registers}
 use Rattle.answers.specs.declared.Outcome.{Outcome}
@@ -53,13 +55,43 @@ module _ (r : Registers) (ste cd : ℕ) (w : ℕ → ℕ) {valid : ℕ} (is-v : 
           unfolding cdRule
           cd-fits good =
               rw is-found
-              (simp
-              (← is-v, ne-eqb _ _ set, ← is-aa64, ne-eqb _ _ new, ← formats, ← is-bit, ne-eqb _ _ there, ← is-epd, ne-eqb _ _ walked,
-              ← is-half, ← is-code, ← is-size, ← is-fits, good))
+              (simp (
+                ← is-v,
+                ne-eqb _ _ set,
+                ← is-aa64,
+                ne-eqb _ _ new,
+                ← formats,
+                ← is-bit,
+                ne-eqb _ _ there,
+                ← is-epd,
+                ne-eqb _ _ walked,
+                ← is-half,
+                ← is-code,
+                ← is-size,
+                ← is-fits,
+                good,
+              ))
 
           pub cd-unfit : fits ≡ false → Abort 10 ≡ cdRule r ste cd w
           unfolding cdRule
           cd-unfit bad =
-              simp
-              (← is-v, ne-eqb _ _ set, ← is-aa64, ne-eqb _ _ new, ← formats, ← is-bit, ne-eqb _ _ there, ← is-epd, ne-eqb _ _ walked,
-              ← is-half, ← is-code, ← is-size, ← is-fits, bad)
+              simp (
+                ← is-v,
+                ne-eqb _ _ set,
+                ← is-aa64,
+                ne-eqb _ _ new,
+                ← formats,
+                ← is-bit,
+                ne-eqb _ _ there,
+                ← is-epd,
+                ne-eqb _ _ walked,
+                ← is-half,
+                ← is-code,
+                ← is-size,
+                ← is-fits,
+                bad,
+              )
+
+pub cd-two : (r : Registers) (ste cd : ℕ) (w : ℕ → ℕ) → cdRule r ste cd w ≡ cdRule r ste cd (twoWords (w 0) (w 1))
+unfolding cdRule
+cd-two r ste cd w = refl

@@ -2,16 +2,21 @@
 --     l1cd-invalid, l1cd-points        what an L1CD says
 --     two-fault, two-read              the L1CD isn't fetched; it is
 --     find-alone, find-linear, find-two    S1CDMax 0; S1Fmt 0; the rest
+--     context-two      the STE's first two words say it all
+--     context-few      at most one descriptor is fetched
 -- Assumes: nothing.
 use Prim.Native.Nat.{ℕ, _+_, _*_, _^_}
 use native.Mathlib.Omega.{arith}
 use mathlib.Core.Path.{_≡_, refl, sym, ap, _∙_}
+use mathlib.Core.Bool.{Bool, true, false}
 use mathlib.Core.List.{List}
 use borrow.Author.Tests.{eq-eqb, ne-eqb}
+use lib.Dec.{eqb}
+use Rattle.bit_fields.specs.Choice.{if_then_else_}
 use Rattle.bit_fields.specs.Bits.{bits, high, low}
 use Rattle.memory_image.specs.Extent.{extentOf, fetchRule}
-use Rattle.memory_image.specs.Words.{bytes, wordIn}
-use Rattle.memory_image.specs.Rule.{done}
+use Rattle.memory_image.specs.Words.{bytes, wordIn, twoWords}
+use Rattle.memory_image.specs.Rule.{done, Fetches}
 use Rattle.memory_image.specs.declared.Fetched.{Fetched}
 use Rattle.memory_image.specs.declared.Fetched.the-variants.{At, Outside}
 use Rattle.answers.specs.Pieces.{pushed}
@@ -57,9 +62,13 @@ module _ (base : ℕ) (memory : List ℕ) (limit : ℕ) (l : Pieces) where
         → record { found = found; list = longer } ≡ walkedOn base memory limit (twoLevelRule (bits 55 6 word * 64) leaf index) l
     unfolding walkedOn twoLevelRule
     two-read had read says push =
-        rw
-        (← upper, ← pointer, level-read base memory limit (p * 64 + 8 * above) 1 is l (Ended (Abort 9)) (λ entry. l1cdRule leaf entry index)
-        (omega arith) had read push, says)
+        rw (
+          ← upper,
+          ← pointer,
+          level-read base memory limit (p * 64 + 8 * above) 1 is l (Ended (Abort 9)) (λ entry. l1cdRule leaf entry index)
+              (omega arith) had read push,
+          says,
+        )
 
   module _ (w : ℕ → ℕ) (index : ℕ) {p max : ℕ} (pointer : p ≡ bits 55 6 (w 0)) (is-max : max ≡ s1CdMax w) where
     pub find-alone : max ≡ 0 → record { found = Cd (p * 64); list = l } ≡ walkedOn base memory limit (contextRule w index) l
@@ -80,3 +89,21 @@ module _ (base : ℕ) (memory : List ℕ) (limit : ℕ) (l : Pieces) where
           → walked ≡ walkedOn base memory limit (contextRule w index) l
       unfolding contextRule
       find-two deep is-leaf walk = rw (walk, is-leaf) (simp (← is-max, ne-eqb _ _ some, ← is-format, ne-eqb _ _ deep))
+
+pub context-two : (w : ℕ → ℕ) (index : ℕ) → contextRule w index ≡ contextRule (twoWords (w 0) (w 1)) index
+unfolding contextRule
+context-two w index = refl
+
+pub context-few : (w : ℕ → ℕ) (index : ℕ) → Fetches 1 (contextRule w index)
+unfolding contextRule twoLevelRule
+context-few w index = go (eqb (s1CdMax w) 0) (eqb (s1Fmt w) 0)
+  where
+    go :
+        (a b : Bool)
+        → Fetches 1
+        (if a then done (Cd (bits 55 6 (w 0) * 64))
+        else if b then done (Cd (bits 55 6 (w 0) * 64 + 64 * index))
+        else twoLevelRule (bits 55 6 (w 0) * 64) (leafBits (s1Fmt w)) index)
+    go true b = tt
+    go false true = tt
+    go false false = (tt, λ entry. tt)

@@ -2,6 +2,7 @@
 --     missing-first, missing-second           step 3: the stage that isn't there
 --     bypass-without, bypass-with             step 5
 --     ste-invalid, ste-quiet, ste-missing, ste-stage2, ste-bypass, ste-stage1    the steps in order
+--     ste-two       the first two words say it all
 -- Assumes: nothing.
 use Prim.Native.Nat.{ℕ, _≤_, _<_}
 use mathlib.Core.Path.{_≡_, refl, sym, ap, _∙_}
@@ -12,11 +13,12 @@ use Rattle.bit_fields.specs.Bits.{bits}
 use Rattle.ids.specs.declared.Substream.{Substream}
 use Rattle.ids.specs.declared.Substream.the-variants.{Without, With}
 use Rattle.ids.specs.declared.SubstreamId.{SubstreamId}
+use Rattle.memory_image.specs.Words.{twoWords}
 use Rattle.registers.specs.Fields.{s1p, s2p}
 use Rattle.registers.specs.declared.Registers.{Registers}
 use Rattle.answers.specs.declared.Outcome.{Outcome}
 use Rattle.answers.specs.declared.Outcome.the-variants.{Abort, Quiet, Bypass, Unserved}
-use Rattle.stream_entry.specs.StreamEntry.{v, config, notThere, bypassRule, stage1Rule, steRule}
+use Rattle.stream_entry.specs.StreamEntry.{v, config, notThere, bypassRule, badStage1, withId, without, stage1Rule, steRule}
 use Rattle.stream_entry.specs.declared.Entry.{Entry}
 use Rattle.stream_entry.specs.declared.Entry.the-variants.{Ended, Stage1}
 
@@ -75,3 +77,10 @@ module _ (r : Registers) (substream : Substream) (address : ℕ) (w : ℕ → �
               rw is
               (simp
               (← is-v, ne-eqb _ _ set, ← is-config, le-ltb _ _ high, ← is-missing, there, ← is-second, ne-eqb _ _ alone, ne-eqb _ _ five))
+
+pub ste-two :
+    (r : Registers) (substream : Substream) (address : ℕ) (w : ℕ → ℕ)
+    → steRule r substream address w ≡ steRule r substream address (twoWords (w 0) (w 1))
+unfolding steRule stage1Rule badStage1 withId without
+ste-two r Without address w = refl
+ste-two r (With id) address w = refl

@@ -1,6 +1,7 @@
 -- Each way out of the walk, on plain values.
 --     two-fault, two-read                            the L1STD isn't fetched; it is
 --     find-off, find-past, find-linear, find-two     steps 1 to 4
+--     stream-few       at most one descriptor is fetched
 -- Assumes: nothing.
 use Prim.Native.Nat.{ℕ, _+_, _-_, _*_, _^_, _≤_, _<_}
 use native.Mathlib.Omega.{arith}
@@ -8,7 +9,7 @@ use mathlib.Core.Path.{_≡_, refl, sym, ap, _∙_}
 use mathlib.Core.Bool.{Bool, true, false, not}
 use mathlib.Core.List.{List}
 use borrow.Author.Tests.{eq-eqb, ne-eqb, le-leb, lt-leb, ltb-false, ltb-true, not-true, not-false}
-use lib.Dec.{ltb}
+use lib.Dec.{eqb, leb, ltb}
 use Rattle.bit_fields.specs.Bits.{inBits}
 use Rattle.bit_fields.specs.Choice.{if_then_else_}
 use Rattle.registers.specs.Fields.{smmuEn}
@@ -16,7 +17,7 @@ use Rattle.registers.specs.Fields as fields
 use Rattle.registers.specs.declared.Registers.{Registers}
 use Rattle.memory_image.specs.Extent.{extentOf, fetchRule}
 use Rattle.memory_image.specs.Words.{bytes, wordIn}
-use Rattle.memory_image.specs.Rule.{Rule, done, fetch}
+use Rattle.memory_image.specs.Rule.{done, Fetches}
 use Rattle.memory_image.specs.declared.Piece.{Piece}
 use Rattle.memory_image.specs.declared.Fetched.{Fetched}
 use Rattle.memory_image.specs.declared.Fetched.the-variants.{At, Outside}
@@ -86,3 +87,19 @@ module _ (base : ℕ) (memory : List ℕ) (limit : ℕ) (r : Registers) (stream 
             → walked ≡ walkedOn base memory limit (twoLevelRule r split stream) l
             → walked ≡ walkedOn base memory limit (streamRule r stream) l
         find-two deep is-code is-split walk = rw (to-kind, ← kind, deep, ← is-code, ← is-split) walk
+
+pub stream-few : (r : Registers) (stream : ℕ) → Fetches 1 (streamRule r stream)
+unfolding streamRule twoLevelRule
+stream-few r stream = go (eqb (smmuEn r) 0) (leb (2 ^ log2 r) stream) (linear r)
+  where
+    go :
+        (a b c : Bool)
+        → Fetches 1
+        (if a then done (Ended (switchedOff r))
+        else if b then done (Ended (Abort 2))
+        else if c then done (Ste (linearAt r stream))
+        else twoLevelRule r (splitOf (fields.split r)) stream)
+    go true b c = tt
+    go false true c = tt
+    go false false true = tt
+    go false false false = (tt, λ entry. tt)

@@ -1,0 +1,54 @@
+-- The STE handed back (01, "What an answer holds": "that very part of the lent memory").
+--     SteHanded     what a call hands back, by where the STE lies: start here
+--     steAt         where it lies in the memory, if it is fetched and nothing is refused
+--     steAtRule     the rule: the same walk, and the same fetch, as the lookup's
+-- Assumes: nothing.
+use Prim.Native.Nat.{ℕ, _+_, _-_, _^_}
+use mathlib.Core.Path.{_≡_}
+use mathlib.Core.List.{List, []}
+use lib.ListN.{take, drop}
+use denote.Ref.{RefT, ptr, now}
+use Rattle.bit_fields.specs.Choice.{if_then_else_}
+use Rattle.ids.specs.Ids.{refusal3}
+use Rattle.ids.specs.declared.Request.{Request}
+use Rattle.registers.specs.Sizes.{refusal1, oasSize}
+use Rattle.registers.specs.declared.Registers.{Registers}
+use Rattle.memory_image.specs.Extent.{extentOf, refusal2}
+use Rattle.memory_image.specs.Words.{bytes}
+use Rattle.memory_image.specs.Rule.{Rule, done, fetch, run, andThen}
+use Rattle.memory_image.specs.declared.Fetched.{Fetched}
+use Rattle.memory_image.specs.declared.Fetched.the-variants.{At, Outside}
+use Rattle.stream_table.specs.StreamTable.{streamRule}
+use Rattle.stream_table.specs.declared.Found.{Found}
+use Rattle.stream_table.specs.declared.Found.the-variants.{Ste, Ended}
+
+-- where the STE lies, once its address is known
+unfoldable pub placeOf : ℕ → Found → Rule Fetched
+placeOf base (Ended outcome) = done Outside
+placeOf base (Ste ste) = fetch ste 8 (done Outside) (λ w. done (At (ste - base)))
+
+unfoldable pub steAtRule : Registers → ℕ → ℕ → Rule Fetched
+steAtRule r base stream = andThen (streamRule r stream) (placeOf base)
+
+unfoldable pub steAt : Registers → ℕ → List ℕ → Request → Fetched
+steAt r base memory request =
+    if refusal1 r then Outside
+    else if refusal2 (extentOf base memory) then Outside
+    else if refusal3 request then Outside
+    else run (extentOf base memory) (2 ^ oasSize r) (bytes memory) (steAtRule r base (request .stream .number)) .answer
+
+-- the 64 bytes from a place on, or none
+abbrev pub steBytes : List ℕ → Fetched → List ℕ
+steBytes memory (At place) = take 64 (drop place memory)
+steBytes memory Outside = []
+
+-- an empty part starts where the memory does
+abbrev pub steStart : Fetched → ℕ
+steStart (At place) = place
+steStart Outside = 0
+
+-- part is that very part of memory: its bytes, and its pointer
+pub record SteHanded (memory part : RefT (List ℕ)) (at : Fetched) : Type 0 where
+  pub contents : now part ≡ steBytes (now memory) at
+  pub block : ptr part .0 ≡ ptr memory .0
+  pub offset : ptr part .1 ≡ ptr memory .1 + steStart at

@@ -1,0 +1,75 @@
+// The whole lookup, and the STE that a request reaches. Start at `lookup`.
+// Meets specs/Lookup.antt and specs/Part.antt. What it reads it reads through `memory_image::fetch`.
+ghost use mathlib.Core.Path.{_≡_};
+ghost use Rattle.lookup.specs.Lookup.{lookedUp, refusedWith};
+ghost use Rattle.lookup.specs.Part.{SteHanded, steAt};
+use answers::Outcome;
+use answers::Pieces;
+use ids::Request;
+use memory_image::Fetched;
+use registers::Registers;
+
+mod part;
+mod walk;
+
+// A refusal's number, or the answer.
+pub enum Answer {
+    Refused(u64),
+    Is(Outcome),
+}
+
+// What a lookup answers, with the descriptors that it read, in order.
+pub struct Looked {
+    pub answer: Answer,
+    pub list: Pieces,
+}
+
+// A refusal carries its number and nothing else.
+fn refuse(number: u64) -> Looked
+    ensures { λ r. ⌜ r ≡ refusedWith number ⌝ }
+{
+    let list = Pieces::none();
+    Looked {
+        answer: Answer::Refused(number),
+        list,
+    }
+}
+
+// What a stream gets, by the registers and the tables in memory: a refusal (1, 2 or 3, the first that
+// applies), or the answer of document 01 with its list.
+pub fn lookup(registers: Registers, base: u64, memory: &[u8], request: Request) -> Looked
+    ensures { λ r. ⌜ r ≡ lookedUp registers base (now (memory .entry)) request ⌝ }
+{
+    if registers.refused() {
+        return refuse(1);
+    }
+    if memory_image::refused(base, memory.len() as u64) {
+        return refuse(2);
+    }
+    if request.refused() {
+        return refuse(3);
+    }
+    walk::from_stream(registers, base, memory, request)
+}
+
+// The 64 bytes of the STE that a request reaches, as that very part of the memory; empty where none is
+// fetched or the lookup refuses. It gives no number.
+pub fn ste_part<'a>(registers: Registers, base: u64, memory: &'a [u8], request: Request) -> &'a [u8]
+    ensures { λ r. ⌜ SteHanded (memory .entry) r (steAt registers base (now (memory .entry)) request) ⌝ }
+{
+    if registers.refused() {
+        return &memory[0..0];
+    }
+    if memory_image::refused(base, memory.len() as u64) {
+        return &memory[0..0];
+    }
+    if request.refused() {
+        return &memory[0..0];
+    }
+    let stream = request.stream;
+    let Fetched::At(place) = part::place_of(registers, base, memory, stream) else {
+        return &memory[0..0];
+    };
+    let end = place + 64;
+    &memory[place..end]
+}

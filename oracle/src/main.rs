@@ -1,0 +1,8 @@
+//! The oracle: reads a script on standard input and writes what it finds to standard output,
+//! as monitor-script.md says.
+
+use std::io::{self, BufWriter};
+
+fn main() -> io::Result<()> {
+    oracle::script::run(io::stdin().lock(), BufWriter::new(io::stdout().lock()))
+}

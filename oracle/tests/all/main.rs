@@ -1,0 +1,10 @@
+//! The tests of the oracle, by the section of 01 or of monitor-script.md that they hold it to.
+
+mod common;
+mod coverage;
+mod laws;
+mod lines;
+mod readings;
+mod refusals;
+mod rules;
+mod shots;
