@@ -57,17 +57,8 @@ pub fn lookup(registers: Registers, base: u64, memory: &[u8], request: Request) 
 pub fn ste_part<'a>(registers: Registers, base: u64, memory: &'a [u8], request: Request) -> &'a [u8]
     ensures { λ r. ⌜ SteHanded (memory .entry) r (steAt registers base (now (memory .entry)) request) ⌝ }
 {
-    if registers.refused() {
-        return &memory[0..0];
-    }
-    if memory_image::refused(base, memory.len() as u64) {
-        return &memory[0..0];
-    }
-    if request.refused() {
-        return &memory[0..0];
-    }
-    let stream = request.stream;
-    let Fetched::At(place) = part::place_of(registers, base, memory, stream) else {
+    let at = part::ste_at(registers, base, memory, request);
+    let Fetched::At(place) = at else {
         return &memory[0..0];
     };
     let end = place + 64;

@@ -2,7 +2,7 @@
 --     descriptor-inside   it lies in the memory, from its place on
 --     word-of             its words are those that the rule's rest is handed
 --     first-word          the first of them, at the place itself
---     second-inside       where the second one is, no address wraps
+--     next-fits           past the first word of a descriptor of 64 bytes no offset wraps; place-ends: nor past its last
 --     by-two-words        what is said of a descriptor by its first two words, as they are read
 -- Assumes: nothing.
 use Prim.Native.Nat.{ℕ, _+_, _-_, _*_, _^_, _≤_, _<_}
@@ -37,12 +37,17 @@ module _ (base : ℕ) (memory : List ℕ) (limit address n : ℕ) {said : Fetche
   pub first-word : 0 < n → wordIn memory place ≡ wordsAt (bytes memory) (address - base) n 0
   first-word some = let at-zero : place + 8 * 0 ≡ place = omega arith in rw at-zero at (word-of 0 some)
 
-  pub second-inside : 1 < n → length memory < 2 ^ 64 → place + 8 < 2 ^ 64
-  second-inside some fits = let inside = had-at .inside in omega arith
-
   pub by-two-words :
       1 < n → {X : Type 0} (says : (ℕ → ℕ) → X) → ((w : ℕ → ℕ) → says w ≡ says (twoWords (w 0) (w 1)))
       → {w0 w1 : ℕ} → w0 ≡ wordIn memory place → w1 ≡ wordIn memory (place + 8)
       → says (wordsAt (bytes memory) (address - base) n) ≡ says (twoWords w0 w1)
   by-two-words some says two first second =
       two (wordsAt (bytes memory) (address - base) n) ∙ rw (first, second, first-word (omega arith), word-of 1 some)
+
+module _ (base : ℕ) (memory : List ℕ) (limit address : ℕ) {said : Fetched} {place : ℕ}
+    (is : said ≡ fetchRule (extentOf base memory) limit address 64) (at : said ≡ At place) where
+  pub place-ends : place + 64 ≤ length memory
+  place-ends = descriptor-inside base memory limit address 8 is at
+
+  pub next-fits : length memory < 2 ^ 64 → place + 8 < 2 ^ 64
+  next-fits fits = omega (arith, place-ends)

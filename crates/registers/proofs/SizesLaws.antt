@@ -1,6 +1,6 @@
 -- Sizes, and refusal 1 by its clauses.
 --     size-none, size-listed      a code past the list, and one in it
---     size-at-most                no size is above 52
+--     size-at-most, oas-at-most   no size is above 52, nor is this SMMU's
 --     refused-oas, refused-sid, refused-ssid    which clause refuses; the last decides
 --     accepted                    what registers that are not refused have
 -- Assumes: nothing.
@@ -34,6 +34,10 @@ module _ (r : Registers) where
   pub size-of-oas : {code size : ℕ} → code ≡ oas r → size ≡ sizeOf code → size ≡ oasSize r
   unfolding oasSize
   size-of-oas is said = rw (said, is)
+
+  pub oas-at-most : oasSize r ≤ 52
+  unfolding oasSize
+  oas-at-most = size-at-most (oas r)
 
   module _ {o : ℕ} (is-oas : o ≡ oas r) where
     pub refused-oas : o ≡ 7 → true ≡ refusal1 r

@@ -1,0 +1,118 @@
+-- From the walk with its list to what the rules give, and the refusals.
+--     limit-is                   2^(OAS size), as the code computes it
+--     lookup-few                 at most four descriptors are fetched
+--     looked-ruled               the walk from an empty list is what the rules give
+--     stream-ended, stream-goes  from the stream
+--     refused-first .. answered-last    the refusals in their order, and the answer
+-- Assumes: nothing.
+use Prim.Native.Nat.{ℕ, _+_, _^_, _%_, _≤_, _<_}
+use native.Mathlib.Omega.{arith}
+use mathlib.Core.Path.{_≡_, refl, sym, ap, _∙_}
+use mathlib.Core.Bool.{Bool, true, false}
+use mathlib.Core.List.{List, []}
+use lib.ListN.{length}
+use Rattle.bit_fields.proofs.BitsLaws.{power-is}
+use Rattle.ids.specs.Ids.{refusal3}
+use Rattle.ids.specs.declared.Request.{Request}
+use Rattle.ids.specs.declared.Substream.{Substream}
+use Rattle.registers.specs.Sizes.{refusal1, oasSize}
+use Rattle.registers.specs.declared.Registers.{Registers}
+use Rattle.registers.proofs.SizesLaws.{oas-at-most}
+use Rattle.memory_image.specs.Extent.{extentOf, refusal2}
+use Rattle.memory_image.specs.Words.{bytes}
+use Rattle.memory_image.specs.Rule.{Rule, done, fetch, Fetches, run, andThen}
+use Rattle.memory_image.proofs.RunLaws.{fetches-then, fetches-more, run-few}
+use Rattle.answers.specs.Pieces.{none, piecesOf, runOn}
+use Rattle.answers.specs.declared.Outcome.{Outcome}
+use Rattle.answers.specs.declared.Pieces.{Pieces}
+use Rattle.answers.proofs.PiecesLaws.{run-on-done, run-on-then, run-on-run, pieces-none}
+use Rattle.stream_table.specs.StreamTable.{streamRule, walkedOn}
+use Rattle.stream_table.specs.declared.Found.{Found}
+use Rattle.stream_table.specs.declared.Found.the-variants as stream
+use Rattle.stream_table.specs.declared.Walked.{Walked}
+use Rattle.stream_table.proofs.StreamLaws.{stream-few}
+use Rattle.stream_entry.specs.StreamEntry.{steRule}
+use Rattle.stream_entry.specs.declared.Entry.{Entry}
+use Rattle.stream_entry.specs.declared.Entry.the-variants as entry
+use Rattle.context_table.specs.ContextTable.{contextRule}
+use Rattle.context_table.specs.declared.Found.{Found as CdFound}
+use Rattle.context_table.specs.declared.Found.the-variants as context
+use Rattle.context_table.proofs.ContextLaws.{context-few}
+use Rattle.lookup.specs.Lookup.{fromCd, fromEntry, fromSte, lookupRule, lookedOn, ruled, refusedWith, answered, lookedUp}
+use Rattle.lookup.specs.declared.Looked.{Looked}
+use Rattle.lookup.specs.declared.Answer.the-variants.{Is}
+
+-- at most four: an L1STD, an STE, an L1CD, a CD
+cd-few : (r : Registers) (ste : ℕ) (found : CdFound) → Fetches 1 (fromCd r ste found)
+unfolding fromCd
+cd-few r ste (context.Ended outcome) = tt
+cd-few r ste (context.Cd cd) = (tt, λ w. tt)
+
+entry-few : (r : Registers) (ste : ℕ) (w : ℕ → ℕ) (says : Entry) → Fetches 2 (fromEntry r ste w says)
+unfolding fromEntry
+entry-few r ste w (entry.Ended outcome) = tt
+entry-few r ste w (entry.Stage1 index) =
+    fetches-then 1 (fromCd r ste) (cd-few r ste) (contextRule w index) 1 2 (omega arith) (context-few w index)
+
+ste-few : (r : Registers) (substream : Substream) (found : Found) → Fetches 3 (fromSte r substream found)
+unfolding fromSte
+ste-few r substream (stream.Ended outcome) = tt
+ste-few r substream (stream.Ste ste) = (tt, λ w. entry-few r ste w (steRule r substream ste w))
+
+pub lookup-few : (r : Registers) (request : Request) → Fetches 4 (lookupRule r request)
+unfolding lookupRule
+lookup-few r request =
+    fetches-then 3 (fromSte r (request .substream)) (ste-few r (request .substream)) (streamRule r (request .stream .number)) 1 4
+    (omega arith) (stream-few r (request .stream .number))
+
+-- what `power` gives for the size of this SMMU's addresses
+pub limit-is : (r : Registers) {size limit : ℕ} → size ≡ oasSize r → limit ≡ 2 ^ size % 2 ^ 64 → limit ≡ 2 ^ oasSize r
+limit-is r {size} is-size is-limit =
+    let most = oas-at-most r in power-is 64 size is-limit (omega arith) ∙ ap (λ (n : ℕ). 2 ^ n) is-size
+
+module _ (r : Registers) (base : ℕ) (memory : List ℕ) (request : Request) where
+  pub looked-ruled : lookedOn base memory (2 ^ oasSize r) (lookupRule r request) none ≡ answered (ruled r base memory request)
+  unfolding lookedOn ruled
+  looked-ruled =
+      let few = run-few (extentOf base memory) (2 ^ oasSize r) (bytes memory) 4 (lookupRule r request) (lookup-few r request) in
+      rw
+      (pieces-none, run-on-run (extentOf base memory) (2 ^ oasSize r) (bytes memory) (lookupRule r request) [] (omega arith))
+
+  module _ {size limit : ℕ} (is-size : size ≡ oasSize r) (is-limit : limit ≡ 2 ^ size % 2 ^ 64) {empty : Pieces} (is-none : empty ≡ none)
+      {step : Walked} (said : step ≡ walkedOn base memory limit (streamRule r (request .stream .number)) empty) where
+    on-stream :
+        lookedOn base memory limit (fromSte r (request .substream) (step .found)) (step .list) ≡ answered (ruled r base memory request)
+    unfolding lookedOn walkedOn lookupRule
+    on-stream = sym (rw (← looked-ruled, ← limit-is r is-size is-limit, ← is-none, said, run-on-then))
+
+    pub stream-ended :
+        {outcome : Outcome} → step .found ≡ stream.Ended outcome
+        → record { answer = Is outcome; list = step .list } ≡ answered (ruled r base memory request)
+    unfolding lookedOn fromSte
+    stream-ended is = rw (← on-stream, is, run-on-done)
+
+    pub stream-goes :
+        {ste : ℕ} {looked : Looked} → step .found ≡ stream.Ste ste
+        → looked ≡ lookedOn base memory limit (fromSte r (request .substream) (stream.Ste ste)) (step .list)
+        → looked ≡ answered (ruled r base memory request)
+    stream-goes is goes = goes ∙ rw (← on-stream, is)
+
+  -- the refusals in their order
+  module _ {first : Bool} (is-first : first ≡ refusal1 r) {looked : Looked} where
+    pub refused-first : first ≡ true → looked ≡ refusedWith 1 → looked ≡ lookedUp r base memory request
+    unfolding lookedUp
+    refused-first so is = rw is (simp (← is-first, so))
+
+    module _ (passed : first ≡ false) {second : Bool} (is-second : second ≡ refusal2 (extentOf base memory)) where
+      pub refused-second : second ≡ true → looked ≡ refusedWith 2 → looked ≡ lookedUp r base memory request
+      unfolding lookedUp
+      refused-second so is = rw is (simp (← is-first, passed, ← is-second, so))
+
+      module _ (passed′ : second ≡ false) {third : Bool} (is-third : third ≡ refusal3 request) where
+        pub refused-third : third ≡ true → looked ≡ refusedWith 3 → looked ≡ lookedUp r base memory request
+        unfolding lookedUp
+        refused-third so is = rw is (simp (← is-first, passed, ← is-second, passed′, ← is-third, so))
+
+        pub answered-last : third ≡ false → looked ≡ answered (ruled r base memory request) → looked ≡ lookedUp r base memory request
+        unfolding lookedUp
+        answered-last so is = rw is (simp (← is-first, passed, ← is-second, passed′, ← is-third, so))
