@@ -3,6 +3,7 @@
 --     run-on-done, run-on-had, run-on-fault    a step of a run
 --     run-on-then                    one rule and then another: the second goes on with the first one's list
 --     pieces-none, pieces-more       the list of none; and of one more
+--     each-pieces, pieces-each       what holds of each piece, of a list and of its count and array
 --     run-on-run                     from a list, what `run` gives, and its list after that one
 -- Assumes: nothing.
 use Prim.Native.Nat.{ℕ, zero, suc, _+_, _-_, _*_, _≤_, _<_}
@@ -11,12 +12,12 @@ use mathlib.Core.Path.{_≡_, refl, sym, ap, _∙_}
 use mathlib.Core.Bool.{Bool, true, false}
 use mathlib.Core.List.{List, [], _∷_, _++_, append-assoc, append-nil}
 use borrow.Author.Tests.{lt-ltb, le-ltb}
-use lib.ListN.{length, set, length-append}
+use lib.ListN.{length, getD, set, length-append}
 use Rattle.memory_image.specs.Extent.{Extent, fetched}
-use Rattle.memory_image.specs.Rule.{Rule, done, fetch, Ran, piece, wordsAt, run, andThen}
+use Rattle.memory_image.specs.Rule.{Rule, done, fetch, Ran, piece, wordsAt, run, andThen, Each}
 use Rattle.memory_image.specs.declared.Piece.{Piece}
 use Rattle.memory_image.proofs.RunLaws.{run-done, run-had, run-fault}
-use Rattle.answers.specs.Pieces.{none, pushed, padded, piecesOf, RanOn, runOn}
+use Rattle.answers.specs.Pieces.{nothing, none, pushed, padded, piecesOf, EachPiece, RanOn, runOn}
 use Rattle.answers.specs.declared.Pieces.{Pieces}
 
 module _ (l : Pieces) (p : Piece) where
@@ -91,6 +92,33 @@ pieces-none = refl
 pub pieces-more : (l : List Piece) (p : Piece) → length l < 4 → pushed (piecesOf l) p ≡ piecesOf (l ++ (p ∷ []))
 unfolding piecesOf
 pieces-more l p room = sym (push-room (piecesOf l) p room) ∙ rw (padded-more 4 l p room, length-append)
+
+padded-at :
+    (m : ℕ) (l : List Piece) → length l ≤ m → (i : ℕ) → i < length l → getD (padded m l) i nothing ≡ getD l i nothing
+padded-at zero [] room i few = refl
+padded-at zero (p ∷ l) room i few = absurd (omega arith)
+padded-at (suc m) [] room i few = absurd (omega arith)
+padded-at (suc m) (p ∷ l) room zero few = refl
+padded-at (suc m) (p ∷ l) room (suc i) few = padded-at m l (omega arith) i (omega arith)
+
+module _ (P : Piece → Type 0) where
+  each-at : (l : List Piece) → Each P l → (i : ℕ) → i < length l → P (getD l i nothing)
+  each-at [] all i few = absurd (omega arith)
+  each-at (p ∷ l) all zero few = all .0
+  each-at (p ∷ l) all (suc i) few = each-at l (all .1) i (omega arith)
+
+  at-each : (l : List Piece) → ((i : ℕ) → i < length l → P (getD l i nothing)) → Each P l
+  at-each [] all = tt
+  at-each (p ∷ l) all = (all 0 (omega arith), at-each l (λ i few. all (suc i) (omega arith)))
+
+  module _ (l : List Piece) (room : length l ≤ 4) where
+    pub each-pieces : Each P l → EachPiece P (piecesOf l)
+    unfolding piecesOf
+    each-pieces all i few = rw (padded-at 4 l room i few) (each-at l all i few)
+
+    pub pieces-each : EachPiece P (piecesOf l) → Each P l
+    unfolding piecesOf
+    pieces-each all = at-each l (λ i few. rw (padded-at 4 l room i few) at (all i few))
 
 abbrev pub grown : {A : Type 0} → List Piece → Ran A → RanOn A
 grown l r = record { answer = r .answer; list = piecesOf (l ++ r .list) }

@@ -2,12 +2,13 @@
 --     piecesMost         that most
 --     none, pushed       no piece; one piece more
 --     piecesOf           a list, as a count and an array: the pieces, and zeros after them
+--     EachPiece          something holds of each piece that is counted
 --     runOn              what a rule gives, and the list as it grows from one that is handed on
 -- Assumes: nothing.
-use Prim.Native.Nat.{ℕ, zero, suc, _+_, _-_, _*_}
+use Prim.Native.Nat.{ℕ, zero, suc, _+_, _-_, _*_, _<_}
 use mathlib.Core.List.{List, [], _∷_}
 use lib.Dec.{ltb}
-use lib.ListN.{length, set, replicate}
+use lib.ListN.{length, getD, set, replicate}
 use Rattle.bit_fields.specs.Choice.{if_then_else_}
 use Rattle.memory_image.specs.Extent.{Extent, fetched}
 use Rattle.memory_image.specs.Rule.{Rule, done, fetch, piece, wordsAt}
@@ -37,6 +38,9 @@ padded (suc m) (p ∷ l) = p ∷ padded m l
 
 unfoldable pub piecesOf : List Piece → Pieces
 piecesOf l = record { count = length l; piece = padded piecesMost l }
+
+abbrev pub EachPiece : (Piece → Type 0) → Pieces → Type 0
+EachPiece P l = (i : ℕ) → i < l .count → P (getD (l .piece) i nothing)
 
 pub record RanOn (A : Type 0) : Type 0 where
   pub answer : A

@@ -3,7 +3,7 @@
 --     two-fault, two-read              the L1CD isn't fetched; it is
 --     find-alone, find-linear, find-two    S1CDMax 0; S1Fmt 0; the rest
 --     context-two      the STE's first two words say it all
---     context-few      at most one descriptor is fetched
+--     context-few, context-every    at most one descriptor is fetched, and it is 8 bytes long
 -- Assumes: nothing.
 use Prim.Native.Nat.{ℕ, _+_, _*_, _^_}
 use native.Mathlib.Omega.{arith}
@@ -16,7 +16,7 @@ use Rattle.bit_fields.specs.Choice.{if_then_else_}
 use Rattle.bit_fields.specs.Bits.{bits, high, low}
 use Rattle.memory_image.specs.Extent.{extentOf, fetchRule}
 use Rattle.memory_image.specs.Words.{bytes, wordIn, twoWords}
-use Rattle.memory_image.specs.Rule.{done, Fetches}
+use Rattle.memory_image.specs.Rule.{Rule, done, Fetches, Every}
 use Rattle.memory_image.specs.declared.Fetched.{Fetched}
 use Rattle.memory_image.specs.declared.Fetched.the-variants.{At, Outside}
 use Rattle.answers.specs.Pieces.{pushed}
@@ -94,16 +94,28 @@ pub context-two : (w : ℕ → ℕ) (index : ℕ) → contextRule w index ≡ co
 unfolding contextRule
 context-two w index = refl
 
-pub context-few : (w : ℕ → ℕ) (index : ℕ) → Fetches 1 (contextRule w index)
-unfolding contextRule twoLevelRule
-context-few w index = go (eqb (s1CdMax w) 0) (eqb (s1Fmt w) 0)
-  where
-    go :
-        (a b : Bool)
-        → Fetches 1
-        (if a then done (Cd (bits 55 6 (w 0) * 64))
-        else if b then done (Cd (bits 55 6 (w 0) * 64 + 64 * index))
-        else twoLevelRule (bits 55 6 (w 0) * 64) (leafBits (s1Fmt w)) index)
-    go true b = tt
-    go false true = tt
-    go false false = (tt, λ entry. tt)
+-- what holds of a rule that is done and of the two-level one holds of the whole
+module _ (w : ℕ → ℕ) (index : ℕ) where
+  context-cases :
+      (Q : Rule Found → Type 0) → ((x : Found) → Q (done x))
+      → Q (twoLevelRule (bits 55 6 (w 0) * 64) (leafBits (s1Fmt w)) index) → Q (contextRule w index)
+  unfolding contextRule
+  context-cases Q finished deep = go (eqb (s1CdMax w) 0) (eqb (s1Fmt w) 0)
+    where
+      go :
+          (a b : Bool)
+          → Q
+          (if a then done (Cd (bits 55 6 (w 0) * 64))
+          else if b then done (Cd (bits 55 6 (w 0) * 64 + 64 * index))
+          else twoLevelRule (bits 55 6 (w 0) * 64) (leafBits (s1Fmt w)) index)
+      go true b = finished (Cd (bits 55 6 (w 0) * 64))
+      go false true = finished (Cd (bits 55 6 (w 0) * 64 + 64 * index))
+      go false false = deep
+
+  pub context-few : Fetches 1 (contextRule w index)
+  unfolding twoLevelRule
+  context-few = context-cases (Fetches 1) (λ x. tt) (tt, λ entry. tt)
+
+  pub context-every : (P : ℕ → Type 0) → P 8 → Every P (contextRule w index)
+  unfolding twoLevelRule
+  context-every P eight = context-cases (Every P) (λ x. tt) (eight, (tt, λ entry. tt))

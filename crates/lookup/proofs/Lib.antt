@@ -2,3 +2,4 @@
 pub mod WalkLaws
 pub mod RuledLaws
 pub mod PartLaws
+pub mod Claims

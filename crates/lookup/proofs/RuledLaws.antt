@@ -1,4 +1,5 @@
 -- From the walk with its list to what the rules give, and the refusals.
+--     lookup-every               of 8 bytes or of 64
 --     limit-is                   2^(OAS size), as the code computes it
 --     lookup-few                 at most four descriptors are fetched
 --     looked-ruled               the walk from an empty list is what the rules give
@@ -20,8 +21,8 @@ use Rattle.registers.specs.declared.Registers.{Registers}
 use Rattle.registers.proofs.SizesLaws.{oas-at-most}
 use Rattle.memory_image.specs.Extent.{extentOf, refusal2}
 use Rattle.memory_image.specs.Words.{bytes}
-use Rattle.memory_image.specs.Rule.{Rule, done, fetch, Fetches, run, andThen}
-use Rattle.memory_image.proofs.RunLaws.{fetches-then, fetches-more, run-few}
+use Rattle.memory_image.specs.Rule.{Fetches, Every, run}
+use Rattle.memory_image.proofs.RunLaws.{fetches-then, run-few, every-then}
 use Rattle.answers.specs.Pieces.{none, piecesOf, runOn}
 use Rattle.answers.specs.declared.Outcome.{Outcome}
 use Rattle.answers.specs.declared.Pieces.{Pieces}
@@ -30,14 +31,14 @@ use Rattle.stream_table.specs.StreamTable.{streamRule, walkedOn}
 use Rattle.stream_table.specs.declared.Found.{Found}
 use Rattle.stream_table.specs.declared.Found.the-variants as stream
 use Rattle.stream_table.specs.declared.Walked.{Walked}
-use Rattle.stream_table.proofs.StreamLaws.{stream-few}
+use Rattle.stream_table.proofs.StreamLaws.{stream-few, stream-every}
 use Rattle.stream_entry.specs.StreamEntry.{steRule}
 use Rattle.stream_entry.specs.declared.Entry.{Entry}
 use Rattle.stream_entry.specs.declared.Entry.the-variants as entry
 use Rattle.context_table.specs.ContextTable.{contextRule}
 use Rattle.context_table.specs.declared.Found.{Found as CdFound}
 use Rattle.context_table.specs.declared.Found.the-variants as context
-use Rattle.context_table.proofs.ContextLaws.{context-few}
+use Rattle.context_table.proofs.ContextLaws.{context-few, context-every}
 use Rattle.lookup.specs.Lookup.{fromCd, fromEntry, fromSte, lookupRule, lookedOn, ruled, refusedWith, answered, lookedUp}
 use Rattle.lookup.specs.declared.Looked.{Looked}
 use Rattle.lookup.specs.declared.Answer.the-variants.{Is}
@@ -64,6 +65,30 @@ unfolding lookupRule
 lookup-few r request =
     fetches-then 3 (fromSte r (request .substream)) (ste-few r (request .substream)) (streamRule r (request .stream .number)) 1 4
     (omega arith) (stream-few r (request .stream .number))
+
+-- an L1STD and an L1CD are 8 bytes long, an STE and a CD 64
+module _ (P : ℕ → Type 0) (eight : P 8) (sixty-four : P 64) where
+  cd-every : (r : Registers) (ste : ℕ) (found : CdFound) → Every P (fromCd r ste found)
+  unfolding fromCd
+  cd-every r ste (context.Ended outcome) = tt
+  cd-every r ste (context.Cd cd) = (sixty-four, (tt, λ w. tt))
+
+  entry-every : (r : Registers) (ste : ℕ) (w : ℕ → ℕ) (says : Entry) → Every P (fromEntry r ste w says)
+  unfolding fromEntry
+  entry-every r ste w (entry.Ended outcome) = tt
+  entry-every r ste w (entry.Stage1 index) =
+      every-then P (fromCd r ste) (cd-every r ste) (contextRule w index) (context-every w index P eight)
+
+  ste-every : (r : Registers) (substream : Substream) (found : Found) → Every P (fromSte r substream found)
+  unfolding fromSte
+  ste-every r substream (stream.Ended outcome) = tt
+  ste-every r substream (stream.Ste ste) = (sixty-four, (tt, λ w. entry-every r ste w (steRule r substream ste w)))
+
+  pub lookup-every : (r : Registers) (request : Request) → Every P (lookupRule r request)
+  unfolding lookupRule
+  lookup-every r request =
+      every-then P (fromSte r (request .substream)) (ste-every r (request .substream)) (streamRule r (request .stream .number))
+      (stream-every r (request .stream .number) P eight)
 
 -- what `power` gives for the size of this SMMU's addresses
 pub limit-is : (r : Registers) {size limit : ℕ} → size ≡ oasSize r → limit ≡ 2 ^ size % 2 ^ 64 → limit ≡ 2 ^ oasSize r

@@ -4,6 +4,7 @@
 --     depends       two memories that agree on the listed bytes give the same answer and list
 --     run-then      what one rule and then another gives, and lists
 --     run-few       a rule of at most n fetches lists at most n pieces
+--     run-every     what holds of the length of whatever a rule fetches holds of each listed piece; every-then: of a chain
 --     fetches-more, fetches-then   at most so many fetches is at most more; one rule and then another
 -- Assumes: nothing.
 use Prim.Native.Nat.{ℕ, zero, suc, _+_, _-_, _*_, _≤_, _<_}
@@ -17,7 +18,7 @@ use lib.ListN.{length}
 use Rattle.bit_fields.specs.Choice.{if_then_else_}
 use Rattle.memory_image.specs.Extent.{Extent, fetched}
 use Rattle.memory_image.specs.Words.{word}
-use Rattle.memory_image.specs.Rule.{Rule, done, fetch, Ran, piece, wordsAt, listed, run, andThen, Fetches, Each, Lies, Agree}
+use Rattle.memory_image.specs.Rule.{Rule, done, fetch, Ran, piece, wordsAt, listed, run, andThen, Fetches, Every, Each, Lies, Agree}
 use Rattle.memory_image.specs.declared.Piece.{Piece}
 use Rattle.memory_image.proofs.ExtentLaws.{fetched-lies}
 use Rattle.memory_image.proofs.WordsLaws.{word-agree}
@@ -65,6 +66,21 @@ module _ {A : Type 0} (e : Extent) (limit : ℕ) (f : ℕ → ℕ) where
           → length (run e limit f fault .list) ≤ suc most
           → length (run e limit f (fetch address n fault rest) .list) ≤ suc most
       go true test on out = rw (run-had address n fault rest test) (omega arith)
+      go false test on out = rw (run-fault address n fault rest test) out
+
+  pub run-every : (P : ℕ → Type 0) (t : Rule A) → Every P t → Each (λ p. P (p .length)) (run e limit f t .list)
+  run-every P (done x) all = rw (run-done x) tt
+  run-every P (fetch address n fault rest) all =
+      go (fetched e limit address (8 * n)) refl
+      (run-every P (rest (wordsAt f (address - e .base) n)) (all .1 .1 (wordsAt f (address - e .base) n)))
+      (run-every P fault (all .1 .0))
+    where
+      go :
+          (b : Bool) → fetched e limit address (8 * n) ≡ b
+          → Each (λ p. P (p .length)) (run e limit f (rest (wordsAt f (address - e .base) n)) .list)
+          → Each (λ p. P (p .length)) (run e limit f fault .list)
+          → Each (λ p. P (p .length)) (run e limit f (fetch address n fault rest) .list)
+      go true test on out = rw (run-had address n fault rest test) (all .0, on)
       go false test on out = rw (run-fault address n fault rest test) out
 
 -- the words of a descriptor are those of any memory that agrees on its piece
@@ -151,3 +167,11 @@ module _ {A B : Type 0} (n : ℕ) (next : A → Rule B) (more : (x : A) → Fetc
   fetches-then (fetch address k fault rest) (suc m) zero less few = absurd (omega arith)
   fetches-then (fetch address k fault rest) (suc m) (suc total) less few =
       (fetches-then fault (suc m) (suc total) less (few .0), λ w. fetches-then (rest w) m total (omega arith) (few .1 w))
+
+pub every-then :
+    {A B : Type 0} (P : ℕ → Type 0) (next : A → Rule B) → ((x : A) → Every P (next x))
+    → (t : Rule A) → Every P t → Every P (andThen t next)
+unfolding andThen
+every-then P next more (done x) all = more x
+every-then P next more (fetch address n fault rest) all =
+    (all .0, (every-then P next more fault (all .1 .0), λ w. every-then P next more (rest w) (all .1 .1 w)))

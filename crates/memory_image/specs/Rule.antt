@@ -3,6 +3,7 @@
 --     run         what a rule gives on the bytes of an extent, and the list of the descriptors that it fetched
 --     andThen     one rule, and then another from what it gives
 --     Fetches     at most so many fetches, whichever way a rule goes
+--     Every       something holds of the length of whatever is fetched, whichever way a rule goes
 --     Each        something holds of each piece of a list
 --     Lies        a piece lies in the memory and ends at or below the limit
 --     Agree       two memories have the same bytes in a piece
@@ -50,6 +51,10 @@ abbrev pub Fetches : {A : Type 0} → ℕ → Rule A → Type 0
 Fetches most (done x) = Unit {0}
 Fetches zero (fetch address n fault rest) = ⊥
 Fetches (suc most) (fetch address n fault rest) = Fetches (suc most) fault × ((w : ℕ → ℕ) → Fetches most (rest w))
+
+abbrev pub Every : {A : Type 0} → (ℕ → Type 0) → Rule A → Type 0
+Every P (done x) = Unit {0}
+Every P (fetch address n fault rest) = P (8 * n) × (Every P fault × ((w : ℕ → ℕ) → Every P (rest w)))
 
 abbrev pub Each : (Piece → Type 0) → List Piece → Type 0
 Each P [] = Unit {0}

@@ -1,13 +1,15 @@
 -- Each way out of the walk, on plain values.
 --     two-fault, two-read                            the L1STD isn't fetched; it is
 --     find-off, find-past, find-linear, find-two     steps 1 to 4
---     stream-few       at most one descriptor is fetched
+--     stream-few, stream-every    at most one descriptor is fetched, and it is 8 bytes long
+--     stream-unread               where none is fetched whatever the memory holds
 -- Assumes: nothing.
 use Prim.Native.Nat.{ℕ, _+_, _-_, _*_, _^_, _≤_, _<_}
 use native.Mathlib.Omega.{arith}
 use mathlib.Core.Path.{_≡_, refl, sym, ap, _∙_}
 use mathlib.Core.Bool.{Bool, true, false, not}
 use mathlib.Core.List.{List}
+use mathlib.Core.Logic.{_⊎_, inl, inr}
 use borrow.Author.Tests.{eq-eqb, ne-eqb, le-leb, lt-leb, ltb-false, ltb-true, not-true, not-false}
 use lib.Dec.{eqb, leb, ltb}
 use Rattle.bit_fields.specs.Bits.{inBits}
@@ -17,7 +19,7 @@ use Rattle.registers.specs.Fields as fields
 use Rattle.registers.specs.declared.Registers.{Registers}
 use Rattle.memory_image.specs.Extent.{extentOf, fetchRule}
 use Rattle.memory_image.specs.Words.{bytes, wordIn}
-use Rattle.memory_image.specs.Rule.{done, Fetches}
+use Rattle.memory_image.specs.Rule.{Rule, done, Fetches, Every}
 use Rattle.memory_image.specs.declared.Piece.{Piece}
 use Rattle.memory_image.specs.declared.Fetched.{Fetched}
 use Rattle.memory_image.specs.declared.Fetched.the-variants.{At, Outside}
@@ -88,18 +90,47 @@ module _ (base : ℕ) (memory : List ℕ) (limit : ℕ) (r : Registers) (stream 
             → walked ≡ walkedOn base memory limit (streamRule r stream) l
         find-two deep is-code is-split walk = rw (to-kind, ← kind, deep, ← is-code, ← is-split) walk
 
-pub stream-few : (r : Registers) (stream : ℕ) → Fetches 1 (streamRule r stream)
-unfolding streamRule twoLevelRule
-stream-few r stream = go (eqb (smmuEn r) 0) (leb (2 ^ log2 r) stream) (linear r)
-  where
-    go :
-        (a b c : Bool)
-        → Fetches 1
-        (if a then done (Ended (switchedOff r))
-        else if b then done (Ended (Abort 2))
-        else if c then done (Ste (linearAt r stream))
-        else twoLevelRule r (splitOf (fields.split r)) stream)
-    go true b c = tt
-    go false true c = tt
-    go false false true = tt
-    go false false false = (tt, λ entry. tt)
+-- what holds of a rule that is done and of the two-level one holds of the whole
+module _ (r : Registers) (stream : ℕ) where
+  stream-cases :
+      (Q : Rule Found → Type 0) → ((x : Found) → Q (done x)) → Q (twoLevelRule r (splitOf (fields.split r)) stream)
+      → Q (streamRule r stream)
+  unfolding streamRule
+  stream-cases Q finished deep = go (eqb (smmuEn r) 0) (leb (2 ^ log2 r) stream) (linear r)
+    where
+      go :
+          (a b c : Bool)
+          → Q
+          (if a then done (Ended (switchedOff r))
+          else if b then done (Ended (Abort 2))
+          else if c then done (Ste (linearAt r stream))
+          else twoLevelRule r (splitOf (fields.split r)) stream)
+      go true b c = finished (Ended (switchedOff r))
+      go false true c = finished (Ended (Abort 2))
+      go false false true = finished (Ste (linearAt r stream))
+      go false false false = deep
+
+  pub stream-few : Fetches 1 (streamRule r stream)
+  unfolding twoLevelRule
+  stream-few = stream-cases (Fetches 1) (λ x. tt) (tt, λ w. tt)
+
+  pub stream-every : (P : ℕ → Type 0) → P 8 → Every P (streamRule r stream)
+  unfolding twoLevelRule
+  stream-every P eight = stream-cases (Every P) (λ x. tt) (eight, (tt, λ w. tt))
+
+  pub stream-unread :
+      (smmuEn r ≡ 0) ⊎ (2 ^ log2 r ≤ stream) → (outcome : Outcome) × (streamRule r stream ≡ done (Ended outcome))
+  unfolding streamRule
+  stream-unread (inl off) = (switchedOff r, simp (eq-eqb _ _ off))
+  stream-unread (inr past) = go (eqb (smmuEn r) 0)
+    where
+      go :
+          (a : Bool)
+          → (outcome : Outcome)
+          × ((if a then done (Ended (switchedOff r))
+          else if leb (2 ^ log2 r) stream then done (Ended (Abort 2))
+          else if linear r then done (Ste (linearAt r stream))
+          else twoLevelRule r (splitOf (fields.split r)) stream)
+          ≡ done (Ended outcome))
+      go true = (switchedOff r, refl)
+      go false = (Abort 2, simp (le-leb _ _ past))

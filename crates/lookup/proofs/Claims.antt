@@ -1,0 +1,133 @@
+-- The claims of specs/Claims.antt, each under its own name.
+-- Assumes: nothing.
+use Prim.Native.Nat.{ℕ, _*_, _^_, _≤_}
+use native.Mathlib.Omega.{arith}
+use mathlib.Core.Path.{_≡_, refl, sym, ap, _∙_}
+use mathlib.Core.Bool.{Bool, true, false}
+use mathlib.Core.List.{List, []}
+use mathlib.Core.Logic.{_⊎_, inl, inr}
+use borrow.Author.Tests.{eq-eqb, ne-eqb, le-leb, lt-leb}
+use lib.Dec.{eqb, leb}
+use lib.ListN.{length}
+use Rattle.bit_fields.specs.Choice.{if_then_else_}
+use Rattle.ids.specs.Ids.{refusal3}
+use Rattle.ids.specs.declared.Request.{Request}
+use Rattle.ids.specs.declared.Substream.{Substream}
+use Rattle.registers.specs.Fields.{smmuEn}
+use Rattle.registers.specs.Sizes.{refusal1, oasSize, sizeOf}
+use Rattle.registers.specs.declared.Registers.{Registers}
+use Rattle.memory_image.specs.Extent.{Extent, extentOf, refusal2, fetched}
+use Rattle.memory_image.specs.Rule.{run, andThen, Agree, Lies}
+use Rattle.memory_image.specs.Words.{bytes, word}
+use Rattle.memory_image.specs.declared.Piece.{Piece}
+use Rattle.memory_image.proofs.RunLaws.{depends, run-lies, run-few, run-every, run-done, run-then}
+use Rattle.answers.specs.Pieces.{none, piecesOf, EachPiece}
+use Rattle.answers.specs.declared.Outcome.{Outcome}
+use Rattle.answers.specs.declared.Pieces.{Pieces}
+use Rattle.answers.proofs.PiecesLaws.{each-pieces, pieces-each, pieces-none}
+use Rattle.stream_table.specs.StreamTable.{streamRule, linear, linearAt}
+use Rattle.stream_entry.specs.StreamEntry.{steRule, notThere}
+use Rattle.stream_table.proofs.StreamLaws.{stream-unread}
+use Rattle.lookup.specs.Claims.{DependsOnList, ListedLies, ListedFew, RefusedExactly, OneAnswer, OnePart, NothingRead, NoneIsNotZero}
+use Rattle.lookup.specs.Lookup.{fromSte, fromEntry, lookupRule, ruled, refusedWith, answered, lookedUp}
+use Rattle.lookup.specs.Part.{SteHanded}
+use Rattle.lookup.specs.declared.Looked.{Looked}
+use Rattle.lookup.proofs.RuledLaws.{lookup-few, lookup-every}
+
+-- the refusals
+pub refused-exactly : (r : Registers) (base : ℕ) (memory : List ℕ) (request : Request) → RefusedExactly r base memory request
+unfolding lookedUp
+refused-exactly r base memory request =
+    record {
+      first = λ a. simp a;
+      second = λ a b. simp (a, b);
+      third = λ a b c. simp (a, b, c);
+      answer = λ a b c. simp (a, b, c);
+    }
+
+-- what holds of a list with nothing in it, and of what the rules list, holds of the list that is answered
+module _ (P : Looked → Type 0) (r : Registers) (base : ℕ) (memory : List ℕ) (request : Request) where
+  by-cases : ((n : ℕ) → P (refusedWith n)) → P (answered (ruled r base memory request)) → P (lookedUp r base memory request)
+  unfolding lookedUp
+  by-cases refused known = go (refusal1 r) (refusal2 (extentOf base memory)) (refusal3 request)
+    where
+      go :
+          (a b c : Bool)
+          → P (if a then refusedWith 1 else if b then refusedWith 2 else if c then refusedWith 3 else answered (ruled r base memory request))
+      go true b c = refused 1
+      go false true c = refused 2
+      go false false true = refused 3
+      go false false false = known
+
+nothing-each : (P : Piece → Type 0) → EachPiece P none
+unfolding none
+nothing-each P i few = absurd (omega arith)
+
+module _ (r : Registers) (base : ℕ) (memory : List ℕ) (request : Request) where
+  room : length (ruled r base memory request .list) ≤ 4
+  unfolding ruled
+  room = run-few (extentOf base memory) (2 ^ oasSize r) (bytes memory) 4 (lookupRule r request) (lookup-few r request)
+
+pub listed-lies : ListedLies
+unfolding ruled
+listed-lies r base memory request =
+    by-cases (λ l. EachPiece (Lies (extentOf base memory) (2 ^ oasSize r)) (l .list)) r base memory request
+    (λ n. nothing-each (Lies (extentOf base memory) (2 ^ oasSize r)))
+    (each-pieces _ (ruled r base memory request .list) (room r base memory request)
+    (run-lies (extentOf base memory) (2 ^ oasSize r) (bytes memory) (lookupRule r request)))
+
+pub listed-few : ListedFew
+unfolding ruled piecesOf none
+listed-few r base memory request =
+    by-cases (λ l. (l .list .count ≤ 4) × EachPiece (λ p. (p .length ≡ 8) ⊎ (p .length ≡ 64)) (l .list)) r base memory request
+    (λ n. (omega arith, nothing-each _)) (
+      room r base memory request,
+      each-pieces _ (ruled r base memory request .list) (room r base memory request)
+          (run-every (extentOf base memory) (2 ^ oasSize r) (bytes memory) (λ n. (n ≡ 8) ⊎ (n ≡ 64)) (lookupRule r request)
+          (lookup-every (λ n. (n ≡ 8) ⊎ (n ≡ 64)) (inl refl) (inr refl) r request)),
+    )
+
+-- list dependence: the refusals read no byte, and the rules depend on what they list
+module _ (r : Registers) (e : Extent) (request : Request) where
+  -- the answer by the tests of the refusals, on the bytes f
+  over : Bool → Bool → Bool → (ℕ → ℕ) → Looked
+  over a b c f =
+      if a then refusedWith 1
+      else if b then refusedWith 2
+      else if c then refusedWith 3
+      else answered (run e (2 ^ oasSize r) f (lookupRule r request))
+
+  over-depends :
+      (a b c : Bool) (f g : ℕ → ℕ) → EachPiece (Agree e f g) (over a b c f .list) → over a b c g ≡ over a b c f
+  unfolding over
+  over-depends true b c f g agree = refl
+  over-depends false true c f g agree = refl
+  over-depends false false true f g agree = refl
+  over-depends false false false f g agree =
+      let few = run-few e (2 ^ oasSize r) f 4 (lookupRule r request) (lookup-few r request) in
+      rw (depends e (2 ^ oasSize r) f g (lookupRule r request) (pieces-each _ (run e (2 ^ oasSize r) f (lookupRule r request) .list) few agree))
+
+pub depends-on-list : DependsOnList
+unfolding lookedUp ruled over
+depends-on-list r base memory other request same agree =
+    rw same
+    (over-depends r (extentOf base memory) request (refusal1 r) (refusal2 (extentOf base memory)) (refusal3 request) (bytes memory) (bytes other)
+    agree)
+
+pub one-answer : OneAnswer
+one-answer r base memory request x y first second = first ∙ sym second
+
+pub one-part : OnePart
+one-part memory x y at first second =
+    (first .contents ∙ sym (second .contents), first .block ∙ sym (second .block), first .offset ∙ sym (second .offset))
+
+pub nothing-read : NothingRead
+unfolding ruled lookupRule fromSte
+nothing-read r base memory request unread =
+    by-cases (λ l. l .list ≡ none) r base memory request (λ n. refl)
+    (let ended = stream-unread r (request .stream .number) unread in
+    rw (run-then, ended .1, run-done, run-done, pieces-none))
+
+pub none-is-not-zero : NoneIsNotZero
+unfolding lookedUp refusal1 refusal2 refusal3 ruled lookupRule fromSte fromEntry streamRule steRule notThere run andThen fetched word oasSize sizeOf linear linearAt
+none-is-not-zero = (refl, refl)

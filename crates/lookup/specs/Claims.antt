@@ -1,0 +1,102 @@
+-- What is claimed of the lookup beyond the contracts: demand 2. proofs/Claims.antt proves each under its own name.
+--     DependsOnList      two memories of one base and length that agree on the listed bytes give the same answer and list
+--     ListedLies         each listed descriptor lies in the memory and ends at or below 2^(OAS size)
+--     ListedFew          at most four descriptors are listed, each of 8 or 64 bytes
+--     RefusedExactly     each refusal is given exactly when its row of the table says, in the order 1, 2, 3
+--     OneAnswer, OnePart any two results that a promise allows for one input are equal
+--     NothingRead        nothing is read where SMMUEN is 0 or the StreamID is out of range
+--     NoneIsNotZero      a request without a SubstreamID and one with SubstreamID 0 get different answers, on concrete tables
+-- Assumes: nothing.
+use Prim.Native.Nat.{ℕ, _^_, _≤_}
+use mathlib.Core.Path.{_≡_}
+use mathlib.Core.Bool.{true, false}
+use mathlib.Core.List.{List, _∷_}
+use mathlib.Core.Logic.{_⊎_}
+use lib.ListN.{length, replicate}
+use denote.Ref.{RefT, ptr, now}
+use Rattle.ids.specs.Ids.{refusal3}
+use Rattle.ids.specs.declared.Request.{Request}
+use Rattle.ids.specs.declared.Substream.{Substream}
+use Rattle.ids.specs.declared.Substream.the-variants.{Without, With}
+use Rattle.registers.specs.Fields.{smmuEn}
+use Rattle.registers.specs.Sizes.{refusal1, oasSize}
+use Rattle.registers.specs.declared.Registers.{Registers}
+use Rattle.memory_image.specs.Extent.{extentOf, refusal2}
+use Rattle.memory_image.specs.Rule.{Agree, Lies}
+use Rattle.memory_image.specs.Words.{bytes}
+use Rattle.memory_image.specs.declared.Fetched.{Fetched}
+use Rattle.answers.specs.Pieces.{none, EachPiece}
+use Rattle.answers.specs.declared.Outcome.the-variants.{Abort, Bypass}
+use Rattle.stream_table.specs.StreamTable.{log2}
+use Rattle.lookup.specs.Lookup.{lookedUp, refusedWith, answered, ruled}
+use Rattle.lookup.specs.Part.{SteHanded}
+use Rattle.lookup.specs.declared.Looked.{Looked}
+use Rattle.lookup.specs.declared.Answer.the-variants.{Is}
+
+abbrev pub DependsOnList : Type 0
+DependsOnList =
+    (r : Registers) (base : ℕ) (memory other : List ℕ) (request : Request) → length other ≡ length memory
+    → EachPiece (Agree (extentOf base memory) (bytes memory) (bytes other)) (lookedUp r base memory request .list)
+    → lookedUp r base other request ≡ lookedUp r base memory request
+
+abbrev pub ListedLies : Type 0
+ListedLies =
+    (r : Registers) (base : ℕ) (memory : List ℕ) (request : Request)
+    → EachPiece (Lies (extentOf base memory) (2 ^ oasSize r)) (lookedUp r base memory request .list)
+
+abbrev pub ListedFew : Type 0
+ListedFew =
+    (r : Registers) (base : ℕ) (memory : List ℕ) (request : Request)
+    → (lookedUp r base memory request .list .count ≤ 4)
+    × EachPiece (λ p. (p .length ≡ 8) ⊎ (p .length ≡ 64)) (lookedUp r base memory request .list)
+
+-- the four cases leave none out, and no two of them meet
+pub record RefusedExactly (r : Registers) (base : ℕ) (memory : List ℕ) (request : Request) : Type 0 where
+  pub first : refusal1 r ≡ true → lookedUp r base memory request ≡ refusedWith 1
+  pub second : refusal1 r ≡ false → refusal2 (extentOf base memory) ≡ true → lookedUp r base memory request ≡ refusedWith 2
+  pub third :
+      refusal1 r ≡ false → refusal2 (extentOf base memory) ≡ false → refusal3 request ≡ true
+      → lookedUp r base memory request ≡ refusedWith 3
+  pub answer :
+      refusal1 r ≡ false → refusal2 (extentOf base memory) ≡ false → refusal3 request ≡ false
+      → lookedUp r base memory request ≡ answered (ruled r base memory request)
+
+abbrev pub OneAnswer : Type 0
+OneAnswer =
+    (r : Registers) (base : ℕ) (memory : List ℕ) (request : Request) (x y : Looked)
+    → x ≡ lookedUp r base memory request → y ≡ lookedUp r base memory request → x ≡ y
+
+abbrev pub OnePart : Type 0
+OnePart =
+    (memory x y : RefT (List ℕ)) (at : Fetched) → SteHanded memory x at → SteHanded memory y at
+    → (now x ≡ now y) × (ptr x .0 ≡ ptr y .0) × (ptr x .1 ≡ ptr y .1)
+
+abbrev pub NothingRead : Type 0
+NothingRead =
+    (r : Registers) (base : ℕ) (memory : List ℕ) (request : Request)
+    → (smmuEn r ≡ 0) ⊎ (2 ^ log2 r ≤ request .stream .number) → lookedUp r base memory request .list ≡ none
+
+-- one STE of 64 bytes, V 1 and Config 100, in a linear table of one entry at address 0, with a 32-bit OAS
+abbrev pub smallRegisters : Registers
+smallRegisters =
+    record {
+      idr0 = 0;
+      idr1 = 0;
+      idr5 = 0;
+      cr0 = 1;
+      cr2 = 0;
+      gbpa = 0;
+      «strtab_base» = 0;
+      «strtab_base_cfg» = 0;
+    }
+
+abbrev pub smallMemory : List ℕ
+smallMemory = 9 ∷ replicate 63 0
+
+abbrev pub streamZero : Substream → Request
+streamZero substream = record { stream = record { number = 0 }; substream = substream }
+
+abbrev pub NoneIsNotZero : Type 0
+NoneIsNotZero =
+    (lookedUp smallRegisters 0 smallMemory (streamZero Without) .answer ≡ Is (Bypass 0))
+    × (lookedUp smallRegisters 0 smallMemory (streamZero (With (record { number = 0 }))) .answer ≡ Is (Abort 8))
