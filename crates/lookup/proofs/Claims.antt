@@ -28,7 +28,7 @@ use Rattle.answers.proofs.PiecesLaws.{each-pieces, pieces-each, pieces-none}
 use Rattle.stream_table.specs.StreamTable.{streamRule, linear, linearAt}
 use Rattle.stream_entry.specs.StreamEntry.{steRule, notThere}
 use Rattle.stream_table.proofs.StreamLaws.{stream-unread}
-use Rattle.lookup.specs.Claims.{DependsOnList, ListedLies, ListedFew, RefusedExactly, OneAnswer, OnePart, NothingRead, NoneIsNotZero}
+use Rattle.lookup.specs.Claims.{DependsOnList, ListedLies, DescriptorLong, ListedFew, RefusedExactly, OneAnswer, OnePart, NothingRead, NoneIsNotZero}
 use Rattle.lookup.specs.Lookup.{fromSte, fromEntry, lookupRule, ruled, refusedWith, answered, lookedUp}
 use Rattle.lookup.specs.Part.{SteHanded}
 use Rattle.lookup.specs.declared.Looked.{Looked}
@@ -79,8 +79,8 @@ listed-lies r base memory request =
 pub listed-few : ListedFew
 unfolding ruled piecesOf none
 listed-few r base memory request =
-    by-cases (λ l. (l .list .count ≤ 4) × EachPiece (λ p. (p .length ≡ 8) ⊎ (p .length ≡ 64)) (l .list)) r base memory request
-    (λ n. (omega arith, nothing-each _)) (
+    by-cases (λ l. (l .list .count ≤ 4) × EachPiece DescriptorLong (l .list)) r base memory request
+    (λ n. (omega arith, nothing-each DescriptorLong)) (
       room r base memory request,
       each-pieces _ (ruled r base memory request .list) (room r base memory request)
           (run-every (extentOf base memory) (2 ^ oasSize r) (bytes memory) (λ n. (n ≡ 8) ⊎ (n ≡ 64)) (lookupRule r request)

@@ -24,6 +24,7 @@ use Rattle.registers.specs.declared.Registers.{Registers}
 use Rattle.memory_image.specs.Extent.{extentOf, refusal2}
 use Rattle.memory_image.specs.Rule.{Agree, Lies}
 use Rattle.memory_image.specs.Words.{bytes}
+use Rattle.memory_image.specs.declared.Piece.{Piece}
 use Rattle.memory_image.specs.declared.Fetched.{Fetched}
 use Rattle.answers.specs.Pieces.{none, EachPiece}
 use Rattle.answers.specs.declared.Outcome.the-variants.{Abort, Bypass}
@@ -44,11 +45,15 @@ ListedLies =
     (r : Registers) (base : ℕ) (memory : List ℕ) (request : Request)
     → EachPiece (Lies (extentOf base memory) (2 ^ oasSize r)) (lookedUp r base memory request .list)
 
+-- an L1STD and an L1CD are 8 bytes long, an STE and a CD 64
+abbrev pub DescriptorLong : Piece → Type 0
+DescriptorLong p = (p .length ≡ 8) ⊎ (p .length ≡ 64)
+
 abbrev pub ListedFew : Type 0
 ListedFew =
     (r : Registers) (base : ℕ) (memory : List ℕ) (request : Request)
     → (lookedUp r base memory request .list .count ≤ 4)
-    × EachPiece (λ p. (p .length ≡ 8) ⊎ (p .length ≡ 64)) (lookedUp r base memory request .list)
+    × EachPiece DescriptorLong (lookedUp r base memory request .list)
 
 -- the four cases leave none out, and no two of them meet
 pub record RefusedExactly (r : Registers) (base : ℕ) (memory : List ℕ) (request : Request) : Type 0 where
