@@ -1,0 +1,4 @@
+-- The laws that the proofs of `words` cite.
+pub mod WordsLaws
+pub mod NumbersLaws
+mod Examples

@@ -1,0 +1,48 @@
+-- Proof of `words::numbers::digit`: which digit a byte is goes by where it stands among the letters.
+-- Assumes: nothing.
+use borrow.Author.Needs.{needs}
+use native.Mathlib.Omega.{arith}
+use Rattle.words.proofs.NumbersLaws.{digit-decimal, digit-lower, digit-upper, digit-below, digit-before-capitals, digit-before-letters, digit-above}
+use Rattle.words.proofs.numbers.digit.Statement.{statement}
+use Rattle.words.proofs.numbers.digit.Tie as tie
+
+cast-result : tie.Need-cast-result
+cast-result c = search needs
+
+cast-result-2 : tie.Need-cast-result-2
+cast-result-2 c = search needs
+
+add-result : tie.Need-add-result
+add-result c = search needs
+
+cast-result-3 : tie.Need-cast-result-3
+cast-result-3 c = search needs
+
+add-result-2 : tie.Need-add-result-2
+add-result-2 c = search needs
+
+returns : tie.Need-returns
+returns c = digit-decimal _ (omega arith) (omega arith)
+
+returns-2 : tie.Need-returns-2
+returns-2 c = digit-upper _ (omega arith) (omega arith)
+
+returns-3 : tie.Need-returns-3
+returns-3 c = digit-lower _ (omega arith) (omega arith)
+
+returns-4 : tie.Need-returns-4
+returns-4 c = search (needs, digit-decimal, digit-lower, digit-upper, digit-below, digit-before-capitals, digit-before-letters, digit-above)
+
+returns-5 : tie.Need-returns-5
+returns-5 c = search (needs, digit-decimal, digit-lower, digit-upper, digit-below, digit-before-capitals, digit-before-letters, digit-above)
+
+returns-6 : tie.Need-returns-6
+returns-6 c = search (needs, digit-decimal, digit-lower, digit-upper, digit-below, digit-before-capitals, digit-before-letters, digit-above)
+
+returns-7 : tie.Need-returns-7
+returns-7 c = search (needs, digit-decimal, digit-lower, digit-upper, digit-below, digit-before-capitals, digit-before-letters, digit-above)
+
+pub digit-spec : {M : Type 1} → statement M
+digit-spec =
+    tie.close (tie.spec cast-result cast-result-2 add-result cast-result-3 add-result-2 returns returns-2
+    returns-3 returns-4 returns-5 returns-6 returns-7)

@@ -1,0 +1,51 @@
+-- Proof of `words::numbers::is_pairs`: the loop goes on while the bytes are digits.
+-- Assumes: nothing.
+use Prim.Native.Nat.{_≤_, _-_}
+use mathlib.Core.Path.{_≡_}
+use lib.ListN.{length, drop}
+use borrow.Author.Needs.{needs}
+use Rattle.words.specs.Numbers.{areDigits, isPairs}
+use Rattle.words.proofs.NumbersLaws.{pairs-none, pairs-odd, pairs-begin, pairs-not, pairs-more, pairs-end}
+use Rattle.words.proofs.numbers.is_pairs.Statement.{statement}
+use Rattle.words.proofs.numbers.is_pairs.Tie as tie
+
+abbrev Inv-loop : tie.InvT-loop
+Inv-loop word i₀ i = (i ≤ length word) × (isPairs word ≡ areDigits (drop i word))
+
+abbrev μ-loop : tie.MeasureT-loop
+μ-loop word i₀ i = length word - i
+
+returns : tie.Need-returns Inv-loop μ-loop
+returns c = search (needs, pairs-none)
+
+returns-2 : tie.Need-returns-2 Inv-loop μ-loop
+returns-2 c = search (needs, pairs-odd)
+
+loop-holds : tie.Need-loop-holds Inv-loop μ-loop
+loop-holds c = (search needs, search (needs, pairs-begin))
+
+shared-slice-read-digit : tie.Need-shared-slice-read-digit Inv-loop μ-loop
+shared-slice-read-digit c = search needs
+
+digit-requires : tie.Need-digit-requires Inv-loop μ-loop
+digit-requires c κs = search needs
+
+returns-3 : tie.Need-returns-3 Inv-loop μ-loop
+returns-3 c = search (needs, pairs-not)
+
+add-i : tie.Need-add-i Inv-loop μ-loop
+add-i c = search needs
+
+loop-less : tie.Need-loop-less Inv-loop μ-loop
+loop-less c = search needs
+
+loop-again : tie.Need-loop-again Inv-loop μ-loop
+loop-again c = (search needs, search (needs, pairs-more))
+
+returns-4 : tie.Need-returns-4 Inv-loop μ-loop
+returns-4 c = search (needs, pairs-end)
+
+pub is-pairs-spec : {M : Type 1} → statement M
+is-pairs-spec =
+    tie.close (tie.spec Inv-loop μ-loop returns returns-2 loop-holds shared-slice-read-digit digit-requires
+    returns-3 add-i loop-less loop-again returns-4)
