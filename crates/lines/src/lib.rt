@@ -32,6 +32,7 @@ pub fn answer(
     pieces(out, to, list)
 }
 
+// What is answered, without the list.
 fn outcome(out: &mut [u8], at: usize, registers: Registers, answer: Outcome) -> usize {
     match answer {
         Outcome::Translate(found) => translation(out, at, found),
@@ -43,6 +44,7 @@ fn outcome(out: &mut [u8], at: usize, registers: Registers, answer: Outcome) -> 
     }
 }
 
+// A stage 1 configuration: where it was found, and then its fields.
 fn translation(out: &mut [u8], at: usize, found: Translation) -> usize {
     let ste = address(out, at, b"translate ste ", found.ste);
     let cd = address(out, ste, b" cd ", found.cd);
@@ -50,6 +52,7 @@ fn translation(out: &mut [u8], at: usize, found: Translation) -> usize {
     tables(out, asid, found)
 }
 
+// The fields that say how the CD's tables are walked.
 fn tables(out: &mut [u8], at: usize, found: Translation) -> usize {
     let t0sz = decimal(out, at, b" t0sz ", found.t0sz);
     let tg0 = decimal(out, t0sz, b" tg0 ", found.tg0);
@@ -58,12 +61,14 @@ fn tables(out: &mut [u8], at: usize, found: Translation) -> usize {
     address(out, ips, b" ttb0 ", found.ttb0)
 }
 
+// An abort with its event, two upper-case digits. An event's number is one byte.
 fn abort(out: &mut [u8], at: usize, registers: Registers, event: u64) -> usize {
     let number = (event % 256) as u8;
     let to = kind(out, at, answers::is_recorded(registers, event));
     pair(out, to, number, b"0123456789ABCDEF")
 }
 
+// Whether the event is recorded, as a word.
 fn kind(out: &mut [u8], at: usize, recorded: bool) -> usize {
     if recorded {
         return bytes(out, at, b"abort ");

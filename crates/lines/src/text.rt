@@ -1,6 +1,7 @@
 // Text put into a lent buffer from a place on. Each function answers the place after what it put;
 // where the buffer is full, nothing more is put and the place stays.
 
+// One byte.
 pub fn byte(out: &mut [u8], at: usize, put: u8) -> usize {
     if at < out.len() {
         out[at] = put;
@@ -9,6 +10,7 @@ pub fn byte(out: &mut [u8], at: usize, put: u8) -> usize {
     at
 }
 
+// Some bytes.
 pub fn bytes(out: &mut [u8], at: usize, put: &[u8]) -> usize {
     let mut to = at;
     let mut i: usize = 0;

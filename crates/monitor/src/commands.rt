@@ -34,12 +34,14 @@ impl State {
         ready.with_waiting(waiting).flushed(out).end()
     }
 
+    // Sets a register.
     fn with_register(mut self, named: Register, number: u64) -> Self {
         let registers = with(self.registers, named, number);
         self.registers = registers;
         self
     }
 
+    // Lends a memory anew, all of its bytes 0.
     fn with_memory(mut self, memory: &mut [u8], base: u64, length: u64) -> Self {
         edits::clear(memory);
         self.base = base;
@@ -47,6 +49,7 @@ impl State {
         self
     }
 
+    // Edits the lent bytes. No other byte of the memory is within reach.
     fn put(self, memory: &mut [u8], offset: u64, times: u64, word: &[u8]) -> Self {
         let length = self.length;
         if length <= memory.len() {
@@ -55,6 +58,7 @@ impl State {
         self
     }
 
+    // Looks up a request, and writes the answer or the refusal.
     fn lookup(self, memory: &[u8], out: &mut [u8], request: Request) -> Self {
         let registers = self.registers;
         let lent = front(memory, self.length);
@@ -73,6 +77,7 @@ impl State {
         }
     }
 
+    // Writes the STE that a request reaches.
     fn part(self, memory: &[u8], out: &mut [u8], request: Request) -> Self {
         let lent = front(memory, self.length);
         let ste = lookup::ste_part(self.registers, self.base, lent, request);
@@ -80,7 +85,7 @@ impl State {
     }
 }
 
-// The registers with one of them set.
+// The registers with one of them set. For each but STRTAB_BASE the number is below 2^32 (`script`).
 fn with(mut registers: Registers, named: Register, number: u64) -> Registers {
     let low = (number % (1 << 32)) as u32;
     match named {

@@ -21,6 +21,7 @@ pub fn put(memory: &mut [u8], at: usize, times: u64, word: &[u8]) -> usize {
     to
 }
 
+// Puts them once.
 fn put_once(memory: &mut [u8], at: usize, word: &[u8]) -> usize {
     let pairs = word.len() / 2;
     let mut to = at;

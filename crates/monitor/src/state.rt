@@ -1,4 +1,4 @@
-// Where a run stands, and what a line does to it. Start at `finish_line`.
+// Where a run stands, from line to line. Start at `finish_line`.
 use libc::STDOUT_FILENO;
 use registers::Registers;
 
@@ -16,10 +16,11 @@ pub struct State {
     pub ended: bool,
 }
 
-// No line of output is longer.
+// No command writes more bytes at once.
 const LONGEST: usize = 8192;
 
 impl State {
+    // Where a run begins: every register 0, and no memory.
     pub fn new() -> Self {
         let registers = Registers {
             idr0: 0,
@@ -48,6 +49,7 @@ impl State {
         self
     }
 
+    // So many bytes wait now.
     pub fn with_waiting(mut self, waiting: usize) -> Self {
         self.waiting = waiting;
         self
@@ -63,7 +65,7 @@ impl State {
         empty.end()
     }
 
-    // Writes what waits where a line might no longer fit after it.
+    // Writes what waits where what a command writes might no longer fit after it.
     pub fn with_room(self, out: &[u8]) -> Self {
         if out.len() < LONGEST {
             return self.flushed(out);
@@ -88,6 +90,7 @@ impl State {
         last.flushed(out).end()
     }
 
+    // Goes on to the next line. Past 2^64 lines their number stays.
     fn next_line(mut self) -> Self {
         self.pending = 0;
         if self.number < u64::MAX {

@@ -1,4 +1,7 @@
-// The lines that edit the memory: `write` and `fill`.
+// The lines that edit the memory: `write` and `fill`. `place_of` meets specs/Place.antt.
+ghost use mathlib.Core.Path.{_≡_};
+ghost use Prim.Native.Nat.{_<_};
+ghost use Rattle.script.specs.Place.{placeRule};
 use crate::Said;
 use crate::reasons::Given;
 use crate::reasons::OUTSIDE_MEMORY;
@@ -24,8 +27,7 @@ pub fn fill(line: &[u8], base: u64, length: u64) -> Said {
     put(line, 3, address, times, base, length)
 }
 
-// The bytes of a word, put at an address so many times. It computes no sum and no product, so it is
-// exact where they would pass 2^64.
+// The bytes of a word, put at an address so many times.
 fn put(line: &[u8], word: usize, address: Given, times: Given, base: u64, length: u64) -> Said {
     let hex = words::nth(line, word);
     let numbers = first(address.wrong, times.wrong);
@@ -36,24 +38,39 @@ fn put(line: &[u8], word: usize, address: Given, times: Given, base: u64, length
     if times.number == 0 {
         return Said::Nothing;
     }
-    if address.number < base {
-        return Said::Wrong(OUTSIDE_MEMORY);
+    let bytes = (hex.len() / 2) as u64;
+    match place_of(base, length, address.number, times.number, bytes) {
+        Place::At(at) => Said::Put {
+            offset: at,
+            times: times.number,
+            word,
+        },
+        Place::Outside => Said::Wrong(OUTSIDE_MEMORY),
     }
-    let offset = address.number - base;
+}
+
+// Where an edit's bytes lie in the memory.
+enum Place {
+    At(u64),
+    Outside,
+}
+
+// Where so many bytes, so many times, lie from an address on, if they all lie in the memory. It computes
+// no sum and no product, so it is exact where these pass 2^64.
+fn place_of(base: u64, length: u64, address: u64, times: u64, bytes: u64) -> Place
+    requires { ⌜ 0 < times ⌝ }
+    ensures { λ r. ⌜ r ≡ placeRule base length address times bytes ⌝ }
+{
+    if address < base {
+        return Place::Outside;
+    }
+    let offset = address - base;
     if length < offset {
-        return Said::Wrong(OUTSIDE_MEMORY);
+        return Place::Outside;
     }
     let room = length - offset;
-    let bytes = (hex.len() / 2) as u64;
-    if bytes == 0 {
-        return Said::Nothing;
+    if room / times < bytes {
+        return Place::Outside;
     }
-    if room / bytes < times.number {
-        return Said::Wrong(OUTSIDE_MEMORY);
-    }
-    Said::Put {
-        offset,
-        times: times.number,
-        word,
-    }
+    Place::At(offset)
 }

@@ -61,6 +61,7 @@ pub fn read(line: &[u8], base: u64, length: u64) -> Said {
     }
 }
 
+// Whether a line whose first word is this one is a comment.
 fn is_comment(name: &[u8]) -> bool {
     if name.len() == 0 {
         return false;

@@ -54,6 +54,7 @@ pub fn number_in(word: &[u8], most: u64) -> Given {
     }
 }
 
+// No number, for that reason.
 fn refused(wrong: u64) -> Given {
     Given { wrong, number: 0 }
 }

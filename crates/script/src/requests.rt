@@ -26,6 +26,7 @@ pub fn part(line: &[u8], count: usize) -> Said {
     }
 }
 
+// A request, or why there is none.
 enum Made {
     Is(Request),
     Wrong(u64),
@@ -45,6 +46,7 @@ fn asked(line: &[u8], count: usize) -> Made {
     requested(wrong, stream.number, Substream::With(id))
 }
 
+// The request of a stream with that number, unless something is wrong already.
 fn requested(wrong: u64, number: u64, substream: Substream) -> Made {
     if wrong != RIGHT {
         return Made::Wrong(wrong);

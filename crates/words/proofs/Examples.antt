@@ -1,4 +1,4 @@
--- The definitions of specs/ at texts that can be read at a glance. Nothing cites these: they are tests of the definitions.
+-- The definitions of specs/ at texts that are read at a glance. Nothing cites these.
 -- Assumes: nothing.
 use Prim.Native.Nat.{ℕ}
 use Prim.Native.Char.{code}
@@ -7,7 +7,8 @@ use mathlib.Core.Path.{_≡_, refl}
 use mathlib.Core.Bool.{Bool, true, false}
 use mathlib.Core.List.{List, [], _∷_}
 use Rattle.words.specs.Words.{isBlank, wordsFrom, wordsOf, withoutReturn}
-use Rattle.words.specs.Numbers.{digitOf, pushedRule, digitsFrom, digitsRule, numberRule, areDigits, isPairs, pairRule}
+use Rattle.words.specs.Numbers.{digitOf, pushedRule, digitsFrom, digitsRule, numberRule}
+use Rattle.words.specs.Numbers.{areDigits, isPairs, pairRule}
 use Rattle.words.specs.declared.numbers.Value.{Value}
 use Rattle.words.specs.declared.numbers.Value.the-variants.{Is, TooLarge, NotOne}
 
@@ -37,12 +38,17 @@ numbers =
     ∷ numberRule []
     ∷ []
 
-read : numbers ≡ Is 255 ∷ Is 10 ∷ Is 18446744073709551615 ∷ TooLarge ∷ TooLarge ∷ NotOne ∷ NotOne ∷ NotOne ∷ NotOne ∷ NotOne ∷ []
+read :
+    numbers
+    ≡ Is 255 ∷ Is 10 ∷ Is 18446744073709551615 ∷ TooLarge ∷ TooLarge
+    ∷ NotOne ∷ NotOne ∷ NotOne ∷ NotOne ∷ NotOne ∷ []
 unfolding numberRule digitsRule digitsFrom pushedRule digitOf
 read = refl
 
 abbrev pairs : List Bool
-pairs = isPairs (bytes "0aB1") ∷ isPairs (bytes "0aB") ∷ isPairs (bytes "0g") ∷ isPairs (bytes "0x") ∷ isPairs [] ∷ []
+pairs =
+    isPairs (bytes "0aB1") ∷ isPairs (bytes "0aB") ∷ isPairs (bytes "0g") ∷ isPairs (bytes "0x")
+    ∷ isPairs [] ∷ []
 
 paired : pairs ≡ true ∷ false ∷ false ∷ false ∷ false ∷ []
 unfolding isPairs areDigits digitOf

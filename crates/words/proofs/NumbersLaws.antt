@@ -21,7 +21,8 @@ use lib.ListN.{length, take, drop, getD, length-drop, drop-of-length-le, List·g
 use lib.Seq.{drop-cons, take-all}
 use mir.Syntax.{w64}
 use mir.Val.{Fits}
-use Rattle.words.specs.Numbers.{digitOf, pushedRule, digitsFrom, digitsRule, numberRule, areDigits, isPairs, pairRule}
+use Rattle.words.specs.Numbers.{digitOf, pushedRule, digitsFrom, digitsRule, numberRule}
+use Rattle.words.specs.Numbers.{areDigits, isPairs, pairRule}
 use Rattle.words.specs.declared.numbers.Value.{Value}
 use Rattle.words.specs.declared.numbers.Value.the-variants.{Is, TooLarge, NotOne}
 
@@ -147,7 +148,8 @@ module _ (base : ℕ) (word : List ℕ) where
           d < base → {v : Value} → v ≡ pushedRule so-far base d
           → digitsRule base word ≡ digitsFrom base v (drop (i + 1) word)
       unfolding digitsFrom
-      digits-more fits pushed = left ∙ rw (drop-cons word i 0 more, add-one) (simp (← is, lt-leb _ _ fits, pushed))
+      digits-more fits pushed =
+          left ∙ rw (drop-cons word i 0 more, add-one) (simp (← is, lt-leb _ _ fits, pushed))
 
 -- the two bases
 module _ (word : List ℕ) {r : Value} where
@@ -218,7 +220,8 @@ module _ (word : List ℕ) where
     pair-none past = simp (le-ltb _ _ past)
 
     pub pair-there :
-        k < length word / 2 → {high low : ℕ} → high ≡ digitOf (getD word (2 * k) 0) → low ≡ digitOf (getD word (2 * k + 1) 0)
+        k < length word / 2
+        → {high low : ℕ} → high ≡ digitOf (getD word (2 * k) 0) → low ≡ digitOf (getD word (2 * k + 1) 0)
         → high % 16 * 16 + low % 16 ≡ pairRule word k
     unfolding pairRule
     pair-there there high low = simp (lt-ltb _ _ there, high, low)

@@ -3,9 +3,10 @@
 --     stops-space, stops-tab, stops-other    which bytes are blanks
 --     passed-here, passed-more, passed-end   the loop that looks for a blank, or for none
 --     until-within, end-within               what it finds lies in the line
+--     left                                   the words from a place on
 --     Starts, starts-after, starts-next      a place where a word starts, or the line's end: how it is come to
 --     count-begin, count-more, count-end     the loop that counts the words
---     later                                  and that it ends
+--     count-less, count-later                and that it ends
 --     nth-begin, nth-more, nth-here          the loop that looks for one of them
 -- Assumes: nothing.
 use Prim.Native.Nat.{ℕ, zero, suc, _+_, _-_, _≤_, _<_}
@@ -65,7 +66,8 @@ module _ (line : List ℕ) (from : ℕ) (blank : Bool) (at : ℕ) where
           let f = simp (← is, found) at e in
           omega arith
 
-      pub passed-more : t ≡ false → from + passed blank (drop from line) ≡ at + 1 + passed blank (drop (at + 1) line)
+      pub passed-more :
+          t ≡ false → from + passed blank (drop from line) ≡ at + 1 + passed blank (drop (at + 1) line)
       unfolding passed
       passed-more going =
           let e = rw (drop-cons line at 0 more) at so-far in
@@ -107,7 +109,8 @@ settled-after (b ∷ bs) = go (isBlank b) refl (settled-after bs)
 
 -- a word that has begun goes on to the next blank
 WordRun : ℕ → List ℕ → List ℕ → Type 0
-WordRun a w l = wordsFrom (a ∷ w) l ≡ ((a ∷ w) ++ take (passed true l) l) ∷ wordsFrom [] (drop (passed true l) l)
+WordRun a w l =
+    wordsFrom (a ∷ w) l ≡ ((a ∷ w) ++ take (passed true l) l) ∷ wordsFrom [] (drop (passed true l) l)
 
 word-run : (a : ℕ) (w l : List ℕ) → WordRun a w l
 unfolding WordRun passed wordsFrom stops
@@ -119,34 +122,37 @@ word-run a w (b ∷ bs) = go (isBlank b) refl (word-run a (w ++ (b ∷ [])) bs)
     go false e rest = simp e (rest ∙ simp append-assoc)
 
 -- the first word, where no blank stands before it
-word-first :
-    (l : List ℕ) → passed false l ≡ 0 → 0 < length l
-    → (wordsFrom [] l ≡ take (passed true l) l ∷ wordsFrom [] (drop (passed true l) l)) × (0 < passed true l)
-unfolding WordRun passed wordsFrom stops
+WordFirst : List ℕ → Type 0
+WordFirst l =
+    (wordsFrom [] l ≡ take (passed true l) l ∷ wordsFrom [] (drop (passed true l) l)) × (0 < passed true l)
+
+word-first : (l : List ℕ) → passed false l ≡ 0 → 0 < length l → WordFirst l
+unfolding WordFirst WordRun passed wordsFrom stops
 word-first [] settled some = absurd (omega arith)
 word-first (b ∷ bs) settled some = go (isBlank b) refl
   where
-    go :
-        (t : Bool) → isBlank b ≡ t
-        → (wordsFrom [] (b ∷ bs) ≡ take (passed true (b ∷ bs)) (b ∷ bs) ∷ wordsFrom [] (drop (passed true (b ∷ bs)) (b ∷ bs)))
-        × (0 < passed true (b ∷ bs))
+    go : (t : Bool) → isBlank b ≡ t → WordFirst (b ∷ bs)
     go true e = absurd (let f = simp e at settled in omega arith)
     go false e = (simp e (word-run b [] bs), simp e (omega arith))
 
+-- the words that are left from a place on
+abbrev pub left : List ℕ → ℕ → List (List ℕ)
+left line start = wordsFrom [] (drop start line)
+
 pub until-within :
-    (line : List ℕ) (from : ℕ) (blank : Bool) → from ≤ length line → {r : ℕ} → r ≡ from + passed blank (drop from line)
-    → r ≤ length line
+    (line : List ℕ) (from : ℕ) (blank : Bool) → from ≤ length line
+    → {r : ℕ} → r ≡ from + passed blank (drop from line) → r ≤ length line
 until-within line from blank fits is =
     let most = simp length-drop at (passed-most blank (drop from line)) in
     omega arith
 
 -- past the end there are no words
-words-none : (line : List ℕ) (from : ℕ) → length line ≤ from → wordsFrom [] (drop from line) ≡ []
+words-none : (line : List ℕ) (from : ℕ) → length line ≤ from → left line from ≡ []
 unfolding wordsFrom
 words-none line from past = rw (drop-of-length-le line past)
 
 pub count-end :
-    (line : List ℕ) (n start : ℕ) → length line ≤ start → {m : ℕ} → m ≡ n + length (wordsFrom [] (drop start line)) → n ≡ m
+    (line : List ℕ) (n start : ℕ) → length line ≤ start → {m : ℕ} → m ≡ n + length (left line start) → n ≡ m
 count-end line n start past so-far = let f = rw (words-none line start past) at so-far in omega arith
 
 -- a place where a word starts, or the line's end
@@ -155,7 +161,9 @@ pub record Starts (line : List ℕ) (start : ℕ) : Type 0 where
   pub settled : passed false (drop start line) ≡ 0
 
 -- after blanks there is such a place, and the words are the same
-module _ (line : List ℕ) (from : ℕ) (fits : from ≤ length line) {s : ℕ} (is : s ≡ from + passed false (drop from line)) where
+module _
+    (line : List ℕ) (from : ℕ) (fits : from ≤ length line)
+    {s : ℕ} (is : s ≡ from + passed false (drop from line)) where
   blanks-dropped : drop s line ≡ drop (passed false (drop from line)) (drop from line)
   blanks-dropped = rw (is, drop-drop)
 
@@ -166,27 +174,30 @@ module _ (line : List ℕ) (from : ℕ) (fits : from ≤ length line) {s : ℕ} 
         settled = rw blanks-dropped (settled-after (drop from line));
       }
 
-  pub words-after : wordsFrom [] (drop from line) ≡ wordsFrom [] (drop s line)
+  pub words-after : left line from ≡ left line s
   words-after = rw blanks-dropped (words-skip (drop from line))
 
 -- where the first word starts
 module _ (line : List ℕ) {s : ℕ} (is : s ≡ 0 + passed false (drop 0 line)) where
-  pub count-begin : length (wordsOf line) ≡ 0 + length (wordsFrom [] (drop s line))
+  pub count-begin : length (wordsOf line) ≡ 0 + length (left line s)
   count-begin = omega (arith, ap length (words-after line 0 (omega arith) is))
 
-  pub nth-begin : (k : ℕ) → getD (wordsOf line) k [] ≡ getD (wordsFrom [] (drop s line)) (k - 0) []
+  pub nth-begin : (k : ℕ) → getD (wordsOf line) k [] ≡ getD (left line s) (k - 0) []
   nth-begin k =
       let whole : k - 0 ≡ k = omega arith in
       rw whole (ap (λ (l : List (List ℕ)). getD l k []) (words-after line 0 (omega arith) is))
 
 -- a word that starts here, and where it ends
-module _ (line : List ℕ) (start : ℕ) (at : Starts line start) {e : ℕ} (end : e ≡ start + passed true (drop start line)) where
+module _
+    (line : List ℕ) (start : ℕ) (at : Starts line start)
+    {e : ℕ} (end : e ≡ start + passed true (drop start line)) where
   pub end-within : e ≤ length line
   end-within = until-within line start true (at .within) end
 
   first :
       start < length line
-      → (wordsFrom [] (drop start line) ≡ take (e - start) (drop start line) ∷ wordsFrom [] (drop e line)) × (start < e)
+      → (left line start ≡ take (e - start) (drop start line) ∷ left line e) × (start < e)
+  unfolding WordFirst
   first more =
       let some : 0 < length (drop start line) = simp length-drop (omega arith) in
       let found = word-first (drop start line) (at .settled) some in
@@ -194,17 +205,19 @@ module _ (line : List ℕ) (start : ℕ) (at : Starts line start) {e : ℕ} (end
       let size : e - start ≡ passed true (drop start line) = omega arith in
       (rw (size, there) (found .0), omega arith)
 
-  here : take (e - start) (drop start line) ≡ getD (wordsFrom [] (drop start line)) 0 []
+  here : take (e - start) (drop start line) ≡ getD (left line start) 0 []
   here = go (ltb start (length line)) refl
     where
-      go : (t : Bool) → ltb start (length line) ≡ t → take (e - start) (drop start line) ≡ getD (wordsFrom [] (drop start line)) 0 []
+      go :
+          (t : Bool) → ltb start (length line) ≡ t
+          → take (e - start) (drop start line) ≡ getD (left line start) 0 []
       go true more = rw (first (ltb-true _ _ more) .0)
       go false past =
           let over = ltb-false start (length line) past in
           rw (words-none line start over, drop-of-length-le line over, take-nil)
 
   pub nth-here :
-      (k i : ℕ) → k ≤ i → {w : List ℕ} → w ≡ getD (wordsFrom [] (drop start line)) (k - i) []
+      (k i : ℕ) → k ≤ i → {w : List ℕ} → w ≡ getD (left line start) (k - i) []
       → take (e - start) (drop start line) ≡ w
   nth-here k i all so-far =
       let none : k - i ≡ 0 = omega arith in
@@ -216,23 +229,26 @@ module _ (line : List ℕ) (start : ℕ) (at : Starts line start) {e : ℕ} (end
     starts-next = starts-after line e end-within next
 
     module _ (more : start < length line) where
-      pub later : start < s
-      later = let f = first more .1 in omega arith
+      pub count-less : length line - s < length line - start
+      count-less = let f = first more .1 in omega arith
+
+      pub count-later : (n : ℕ) → n ≤ start → n + 1 ≤ s
+      count-later n so-far = let f = first more .1 in omega arith
 
       pub count-more :
-          (n : ℕ) {m : ℕ} → m ≡ n + length (wordsFrom [] (drop start line)) → m ≡ n + 1 + length (wordsFrom [] (drop s line))
+          (n : ℕ) {m : ℕ} → m ≡ n + length (left line start) → m ≡ n + 1 + length (left line s)
       count-more n so-far =
           let f = rw (first more .0, words-after line e end-within next) at so-far in
           omega arith
 
     pub nth-more :
-        (k i : ℕ) → i < k → {w : List ℕ} → w ≡ getD (wordsFrom [] (drop start line)) (k - i) []
-        → w ≡ getD (wordsFrom [] (drop s line)) (k - (i + 1)) []
-    nth-more k i left so-far = so-far ∙ go (ltb start (length line)) refl
+        (k i : ℕ) → i < k → {w : List ℕ} → w ≡ getD (left line start) (k - i) []
+        → w ≡ getD (left line s) (k - (i + 1)) []
+    nth-more k i before so-far = so-far ∙ go (ltb start (length line)) refl
       where
         go :
             (t : Bool) → ltb start (length line) ≡ t
-            → getD (wordsFrom [] (drop start line)) (k - i) [] ≡ getD (wordsFrom [] (drop s line)) (k - (i + 1)) []
+            → getD (left line start) (k - i) [] ≡ getD (left line s) (k - (i + 1)) []
         go true more =
             let one-less : k - i ≡ suc (k - (i + 1)) = omega arith in
             rw (first (ltb-true _ _ more) .0, words-after line e end-within next, one-less)

@@ -53,5 +53,6 @@ isPairs word = ltb 0 (length word) && (eqb (length word % 2) 0 && areDigits word
 -- the byte of the pair with that number, counted from 0; a byte that is no digit counts as 0
 unfoldable pub pairRule : List ℕ → ℕ → ℕ
 pairRule word k =
-    if ltb k (length word / 2) then digitOf (getD word (2 * k) 0) % 16 * 16 + digitOf (getD word (2 * k + 1) 0) % 16
+    if ltb k (length word / 2)
+    then digitOf (getD word (2 * k) 0) % 16 * 16 + digitOf (getD word (2 * k + 1) 0) % 16
     else 0

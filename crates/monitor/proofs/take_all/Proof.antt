@@ -8,7 +8,9 @@ use Rattle.monitor.proofs.take_all.Statement.{statement}
 use Rattle.monitor.proofs.take_all.Tie as tie
 
 abbrev Inv-loop : tie.InvT-loop
-Inv-loop bytes line₀ memory₀ out₀ now₀ i₀ line memory out now i = (i ≤ length bytes) × (length line ≡ length line₀) × (length memory ≡ length memory₀) × (length out ≡ length out₀)
+Inv-loop bytes line₀ memory₀ out₀ now₀ i₀ line memory out now i =
+    (i ≤ length bytes) × (length line ≡ length line₀)
+    × (length memory ≡ length memory₀) × (length out ≡ length out₀)
 
 abbrev μ-loop : tie.MeasureT-loop
 μ-loop bytes line₀ memory₀ out₀ now₀ i₀ line memory out now i = length bytes - i

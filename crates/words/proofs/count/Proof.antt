@@ -2,17 +2,17 @@
 -- Assumes: nothing.
 use Prim.Native.Nat.{_≤_, _+_, _-_}
 use mathlib.Core.Path.{_≡_}
-use lib.ListN.{length, drop}
+use lib.ListN.{length}
 use borrow.Author.Needs.{needs}
-use native.Mathlib.Omega.{arith}
-use mathlib.Core.List.{[]}
-use Rattle.words.specs.Words.{wordsFrom, wordsOf}
-use Rattle.words.proofs.WordsLaws.{Starts, starts-after, starts-next, end-within, later, count-begin, count-more, count-end}
+use Rattle.words.specs.Words.{wordsOf}
+use Rattle.words.proofs.WordsLaws.{left, Starts, starts-after, starts-next, end-within}
+use Rattle.words.proofs.WordsLaws.{count-begin, count-less, count-later, count-more, count-end}
 use Rattle.words.proofs.count.Statement.{statement}
 use Rattle.words.proofs.count.Tie as tie
 
 abbrev Inv-loop : tie.InvT-loop
-Inv-loop line n₀ start₀ n start = (n ≤ start) × Starts line start × (length (wordsOf line) ≡ n + length (wordsFrom [] (drop start line)))
+Inv-loop line n₀ start₀ n start =
+    (n ≤ start) × Starts line start × (length (wordsOf line) ≡ n + length (left line start))
 
 abbrev μ-loop : tie.MeasureT-loop
 μ-loop line n₀ start₀ n start = length line - start
@@ -33,15 +33,10 @@ add-n : tie.Need-add-n Inv-loop μ-loop
 add-n c = search needs
 
 loop-less : tie.Need-loop-less Inv-loop μ-loop
-loop-less c =
-    let at-loop = c .before .before .before .loop in
-    omega (arith, later _ _ (at-loop .inv .1) (c .before .until2 .ensures) (c .until3 .ensures) (c .before .before .loop-test .taken))
+loop-less c = search (needs, count-less)
 
 loop-again : tie.Need-loop-again Inv-loop μ-loop
-loop-again c =
-    let at-loop = c .before .before .before .loop in
-    let on = later _ _ (at-loop .inv .1) (c .before .until2 .ensures) (c .until3 .ensures) (c .before .before .loop-test .taken) in
-    (omega arith, search (needs, starts-next), search (needs, count-more))
+loop-again c = (search (needs, count-later), search (needs, starts-next), search (needs, count-more))
 
 returns : tie.Need-returns Inv-loop μ-loop
 returns c = search (needs, count-end)

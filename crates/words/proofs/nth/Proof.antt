@@ -1,17 +1,19 @@
 -- Proof of `words::nth`: each turn leaves one word less to pass.
 -- Assumes: nothing.
 use Prim.Native.Nat.{_≤_, _-_}
-use lib.ListN.{drop, getD}
+use lib.ListN.{getD}
 use mathlib.Core.Path.{_≡_}
 use borrow.Author.Needs.{needs}
 use mathlib.Core.List.{[]}
-use Rattle.words.specs.Words.{wordsFrom, wordsOf}
-use Rattle.words.proofs.WordsLaws.{Starts, starts-after, starts-next, end-within, nth-begin, nth-more, nth-here}
+use Rattle.words.specs.Words.{wordsOf}
+use Rattle.words.proofs.WordsLaws.{left, Starts, starts-after, starts-next, end-within}
+use Rattle.words.proofs.WordsLaws.{nth-begin, nth-more, nth-here}
 use Rattle.words.proofs.nth.Statement.{statement}
 use Rattle.words.proofs.nth.Tie as tie
 
 abbrev Inv-loop : tie.InvT-loop
-Inv-loop line k start₀ i₀ start i = (i ≤ k) × Starts line start × (getD (wordsOf line) k [] ≡ getD (wordsFrom [] (drop start line)) (k - i) [])
+Inv-loop line k start₀ i₀ start i =
+    (i ≤ k) × Starts line start × (getD (wordsOf line) k [] ≡ getD (left line start) (k - i) [])
 
 abbrev μ-loop : tie.MeasureT-loop
 μ-loop line k start₀ i₀ start i = k - i

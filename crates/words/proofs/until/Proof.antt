@@ -10,7 +10,8 @@ use Rattle.words.proofs.until.Statement.{statement}
 use Rattle.words.proofs.until.Tie as tie
 
 abbrev Inv-loop : tie.InvT-loop
-Inv-loop line from blank at₀ at = (at ≤ length line) × (from + passed blank (drop from line) ≡ at + passed blank (drop at line))
+Inv-loop line from blank at₀ at =
+    (at ≤ length line) × (from + passed blank (drop from line) ≡ at + passed blank (drop at line))
 
 abbrev μ-loop : tie.MeasureT-loop
 μ-loop line from blank at₀ at = length line - at

@@ -1,0 +1,2 @@
+-- The laws that the proofs of `script` cite.
+pub mod PlaceLaws
