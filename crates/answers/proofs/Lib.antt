@@ -2,3 +2,4 @@
 pub mod OutcomeLaws
 pub mod PiecesLaws
 pub mod FetchLaws
+pub mod ProperLaws

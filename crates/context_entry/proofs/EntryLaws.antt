@@ -2,18 +2,24 @@
 --     old-served, old-bad              AA64 0
 --     cd-invalid, cd-old, cd-bad, cd-off, cd-fits, cd-unfit    in order
 --     cd-two       the first two words say it all
+--     cd-proper    the outcome is proper
 -- Assumes: nothing.
 use Prim.Native.Nat.{ℕ}
+use native.Mathlib.Omega.{arith}
 use mathlib.Core.Path.{_≡_, refl, sym, ap, _∙_}
 use mathlib.Core.Bool.{Bool, true, false}
 use borrow.Author.Tests.{eq-eqb, ne-eqb}
+use lib.Dec.{eqb}
 use Rattle.bit_fields.specs.Bits.{bits, field}
+use Rattle.bit_fields.specs.Choice.{if_then_else_}
 use Rattle.memory_image.specs.Words.{twoWords}
 use Rattle.registers.specs.Fields.{ttf}
 use Rattle.registers.specs.declared.Registers.{Registers}
+use Rattle.answers.specs.Proper.{listedEvent, listedCase, properOutcome}
 use Rattle.answers.specs.declared.Outcome.{Outcome}
 use Rattle.answers.specs.declared.Outcome.the-variants.{Abort, Translate, Unserved}
 use Rattle.answers.specs.declared.Translation.{Translation}
+use Rattle.answers.proofs.ProperLaws.{fields-proper}
 use Rattle.context_entry.specs.ContextEntry.{v, aa64, epd0, ips, effectiveIps, halfFits, firstHalf, translated, vmsa32Rule, cdRule}
 use Rattle.context_entry.specs.declared.Half.{Half}
 
@@ -95,3 +101,39 @@ module _ (r : Registers) (ste cd : ℕ) (w : ℕ → ℕ) {valid : ℕ} (is-v : 
 pub cd-two : (r : Registers) (ste cd : ℕ) (w : ℕ → ℕ) → cdRule r ste cd w ≡ cdRule r ste cd (twoWords (w 0) (w 1))
 unfolding cdRule
 cd-two r ste cd w = refl
+
+old-proper : (r : Registers) → properOutcome (vmsa32Rule r) ≡ true
+unfolding vmsa32Rule properOutcome listedEvent listedCase
+old-proper r = go (eqb (bits 0 0 (ttf r)) 1)
+  where
+    go : (a : Bool) → properOutcome (if a then Unserved 21 else Abort 10) ≡ true
+    go true = refl
+    go false = refl
+
+-- a CD's fields have their widths
+translated-proper : (r : Registers) (ste cd : ℕ) (w : ℕ → ℕ) → properOutcome (Translate (translated r ste cd w)) ≡ true
+unfolding properOutcome
+translated-proper r ste cd w = fields-proper (translated r ste cd w) (omega arith) (omega arith) (omega arith) (omega arith)
+
+pub cd-proper : (r : Registers) (ste cd : ℕ) (w : ℕ → ℕ) → properOutcome (cdRule r ste cd w) ≡ true
+unfolding cdRule properOutcome listedEvent
+cd-proper r ste cd w =
+    go (eqb (v w) 0) (eqb (aa64 w) 0) (eqb (bits 1 1 (ttf r)) 0) (eqb (epd0 w) 1)
+    (halfFits r (effectiveIps r (ips w)) (firstHalf w))
+  where
+    go :
+        (a b c d e : Bool)
+        → properOutcome
+        (if a then Abort 10
+        else if b then vmsa32Rule r
+        else if c then Abort 10
+        else if d then Translate (translated r ste cd w)
+        else if e then Translate (translated r ste cd w)
+        else Abort 10)
+        ≡ true
+    go true b c d e = refl
+    go false true c d e = old-proper r
+    go false false true d e = refl
+    go false false false true e = translated-proper r ste cd w
+    go false false false false true = translated-proper r ste cd w
+    go false false false false false = refl

@@ -4,6 +4,7 @@
 --     find-alone, find-linear, find-two    S1CDMax 0; S1Fmt 0; the rest
 --     context-two      the STE's first two words say it all
 --     context-few, context-every    at most one descriptor is fetched, and it is 8 bytes long
+--     context-proper   where it ends, it ends with a proper outcome
 -- Assumes: nothing.
 use Prim.Native.Nat.{ℕ, _+_, _*_, _^_}
 use native.Mathlib.Omega.{arith}
@@ -16,10 +17,11 @@ use Rattle.bit_fields.specs.Choice.{if_then_else_}
 use Rattle.bit_fields.specs.Bits.{bits, high, low}
 use Rattle.memory_image.specs.Extent.{extentOf, fetchRule}
 use Rattle.memory_image.specs.Words.{bytes, wordIn, twoWords}
-use Rattle.memory_image.specs.Rule.{Rule, done, Fetches, Every}
+use Rattle.memory_image.specs.Rule.{Rule, done, Fetches, Every, Gives}
 use Rattle.memory_image.specs.declared.Fetched.{Fetched}
 use Rattle.memory_image.specs.declared.Fetched.the-variants.{At, Outside}
 use Rattle.answers.specs.Pieces.{pushed}
+use Rattle.answers.specs.Proper.{listedEvent, properOutcome}
 use Rattle.answers.specs.declared.Outcome.the-variants.{Abort}
 use Rattle.answers.specs.declared.Pieces.{Pieces}
 use Rattle.answers.proofs.PiecesLaws.{run-on-done}
@@ -94,10 +96,23 @@ pub context-two : (w : ℕ → ℕ) (index : ℕ) → contextRule w index ≡ co
 unfolding contextRule
 context-two w index = refl
 
--- what holds of a rule that is done and of the two-level one holds of the whole
+-- where it ends, it ends with a proper outcome
+abbrev pub EndsProper : Found → Type 0
+EndsProper (Cd cd) = Unit {0}
+EndsProper (Ended outcome) = properOutcome outcome ≡ true
+
+l1cd-proper : (leaf l1cd index : ℕ) → EndsProper (l1cdRule leaf l1cd index)
+unfolding l1cdRule properOutcome listedEvent
+l1cd-proper leaf l1cd index = go (eqb (bits 0 0 l1cd) 0) _
+  where
+    go : (a : Bool) (x : ℕ) → EndsProper (if a then Ended (Abort 8) else Cd x)
+    go true x = refl
+    go false x = tt
+
+-- what holds of a rule that is done with a CD's address and of the two-level one holds of the whole
 module _ (w : ℕ → ℕ) (index : ℕ) where
   context-cases :
-      (Q : Rule Found → Type 0) → ((x : Found) → Q (done x))
+      (Q : Rule Found → Type 0) → ((cd : ℕ) → Q (done (Cd cd)))
       → Q (twoLevelRule (bits 55 6 (w 0) * 64) (leafBits (s1Fmt w)) index) → Q (contextRule w index)
   unfolding contextRule
   context-cases Q finished deep = go (eqb (s1CdMax w) 0) (eqb (s1Fmt w) 0)
@@ -108,14 +123,19 @@ module _ (w : ℕ → ℕ) (index : ℕ) where
           (if a then done (Cd (bits 55 6 (w 0) * 64))
           else if b then done (Cd (bits 55 6 (w 0) * 64 + 64 * index))
           else twoLevelRule (bits 55 6 (w 0) * 64) (leafBits (s1Fmt w)) index)
-      go true b = finished (Cd (bits 55 6 (w 0) * 64))
-      go false true = finished (Cd (bits 55 6 (w 0) * 64 + 64 * index))
+      go true b = finished (bits 55 6 (w 0) * 64)
+      go false true = finished (bits 55 6 (w 0) * 64 + 64 * index)
       go false false = deep
 
   pub context-few : Fetches 1 (contextRule w index)
   unfolding twoLevelRule
-  context-few = context-cases (Fetches 1) (λ x. tt) (tt, λ entry. tt)
+  context-few = context-cases (Fetches 1) (λ cd. tt) (tt, λ entry. tt)
 
   pub context-every : (P : ℕ → Type 0) → P 8 → Every P (contextRule w index)
   unfolding twoLevelRule
-  context-every P eight = context-cases (Every P) (λ x. tt) (eight, (tt, λ entry. tt))
+  context-every P eight = context-cases (Every P) (λ cd. tt) (eight, (tt, λ entry. tt))
+
+  pub context-proper : Gives EndsProper (contextRule w index)
+  unfolding twoLevelRule properOutcome listedEvent
+  context-proper =
+      context-cases (Gives EndsProper) (λ cd. tt) (refl, λ entry. l1cd-proper (leafBits (s1Fmt w)) (entry 0) index)

@@ -1,5 +1,6 @@
 -- A request and its word.
 --     packed-without, packed-with                   the word, by cases
+--     packed-small                                  a word has 53 bits
 --     past-all, back-without, back-none, back-with  what a word stands for, by cases
 --     unpack-pack     a proper request is read back from its word: packing loses nothing
 --     packed-only     two proper requests with equal words are equal
@@ -31,6 +32,14 @@ module _ (request : Request) where
   pub packed-with : {id : SubstreamId} {n : ℕ} → request .substream ≡ With id → n ≡ low (id .number) 20 → request .stream .number * 2097152 + (1048576 + n) ≡ packed request
   unfolding packed
   packed-with is low-is = rw (is, low-is)
+
+pub packed-small : (request : Request) → request .stream .number < 2 ^ 32 → packed request < 2 ^ 53
+unfolding packed
+packed-small request narrow = go (request .substream)
+  where
+    go : (s : Substream) → request .stream .number * 2097152 + partOf s < 2 ^ 53
+    go Without = omega arith
+    go (With id) = omega arith
 
 module _ (word : ℕ) where
   pub past-all : 2 ^ 53 ≤ word → Nothing ≡ unpacked word

@@ -9,6 +9,7 @@ use mathlib.Core.Logic.{_⊎_, inl, inr}
 use borrow.Author.Tests.{eq-eqb, ne-eqb, le-leb, lt-leb}
 use lib.Dec.{eqb, leb}
 use lib.ListN.{length}
+use lib.Pow.{pow-mono}
 use Rattle.bit_fields.specs.Choice.{if_then_else_}
 use Rattle.ids.specs.Ids.{refusal3}
 use Rattle.ids.specs.declared.Request.{Request}
@@ -16,23 +17,27 @@ use Rattle.ids.specs.declared.Substream.{Substream}
 use Rattle.registers.specs.Fields.{smmuEn}
 use Rattle.registers.specs.Sizes.{refusal1, oasSize, sizeOf}
 use Rattle.registers.specs.declared.Registers.{Registers}
+use Rattle.registers.proofs.SizesLaws.{oas-at-most}
 use Rattle.memory_image.specs.Extent.{Extent, extentOf, refusal2, fetched}
 use Rattle.memory_image.specs.Rule.{run, andThen, Agree, Lies}
 use Rattle.memory_image.specs.Words.{bytes, word}
 use Rattle.memory_image.specs.declared.Piece.{Piece}
-use Rattle.memory_image.proofs.RunLaws.{depends, run-lies, run-few, run-every, run-done, run-then}
+use Rattle.memory_image.proofs.RunLaws.{depends, run-lies, run-few, run-every, run-gives, run-done, run-then}
 use Rattle.answers.specs.Pieces.{none, piecesOf, EachPiece}
+use Rattle.answers.specs.Proper.{ProperAnswer}
 use Rattle.answers.specs.declared.Outcome.{Outcome}
 use Rattle.answers.specs.declared.Pieces.{Pieces}
 use Rattle.answers.proofs.PiecesLaws.{each-pieces, pieces-each, pieces-none}
+use Rattle.answers.proofs.ProperLaws.{Below, proper-pieces, pieces-length}
 use Rattle.stream_table.specs.StreamTable.{streamRule, linear, linearAt}
 use Rattle.stream_entry.specs.StreamEntry.{steRule, notThere}
 use Rattle.stream_table.proofs.StreamLaws.{stream-unread}
-use Rattle.lookup.specs.Claims.{DependsOnList, ListedLies, DescriptorLong, ListedFew, RefusedExactly, OneAnswer, OnePart, NothingRead, NoneIsNotZero}
+use Rattle.lookup.specs.Claims.{DependsOnList, ListedLies, DescriptorLong, ListedFew, RefusedExactly, OneAnswer, OnePart, NothingRead, AnswersProper, NoneIsNotZero}
 use Rattle.lookup.specs.Lookup.{fromSte, fromEntry, lookupRule, ruled, refusedWith, answered, lookedUp}
 use Rattle.lookup.specs.Part.{SteHanded}
 use Rattle.lookup.specs.declared.Looked.{Looked}
-use Rattle.lookup.proofs.RuledLaws.{lookup-few, lookup-every}
+use Rattle.lookup.specs.declared.Answer.the-variants.{Refused, Is}
+use Rattle.lookup.proofs.RuledLaws.{lookup-few, lookup-every, ProperOutcome, lookup-gives}
 
 -- the refusals
 pub refused-exactly : (r : Registers) (base : ℕ) (memory : List ℕ) (request : Request) → RefusedExactly r base memory request
@@ -127,6 +132,50 @@ nothing-read r base memory request unread =
     by-cases (λ l. l .list ≡ none) r base memory request (λ n. refl)
     (let ended = stream-unread r (request .stream .number) unread in
     rw (run-then, ended .1, run-done, run-done, pieces-none))
+
+-- what the rules give is proper: each listed piece ends at or below 2^(OAS size), which is at most 2^52
+module _ (r : Registers) (base : ℕ) (memory : List ℕ) (request : Request) where
+  ruled-proper : ProperAnswer (ruled r base memory request .answer) (piecesOf (ruled r base memory request .list))
+  unfolding ruled piecesOf
+  ruled-proper =
+      record {
+        outcome-proper = run-gives e (2 ^ oasSize r) (bytes memory) ProperOutcome (lookupRule r request) (lookup-gives r request);
+        list-proper = proper-pieces (piecesOf l) few ends;
+        array-full = pieces-length l;
+      }
+    where
+      e : Extent
+      e = extentOf base memory
+
+      l : List Piece
+      l = ruled r base memory request .list
+
+      few : length l ≤ 4
+      few = room r base memory request
+
+      ends : EachPiece Below (piecesOf l)
+      ends i counted =
+          let lies = each-pieces (Lies e (2 ^ oasSize r)) l few (run-lies e (2 ^ oasSize r) (bytes memory) (lookupRule r request)) i counted in
+          let top : 2 ^ oasSize r ≤ 2 ^ 52 = pow-mono (oas-at-most r) in
+          omega (arith, lies .below)
+
+pub answers-proper : AnswersProper
+answers-proper r base memory request outcome l is =
+    by-cases (λ looked. looked ≡ record { answer = Is outcome; list = l } → ProperAnswer outcome l) r base memory request
+    refused known is
+  where
+    refused : (n : ℕ) → refusedWith n ≡ record { answer = Is outcome; list = l } → ProperAnswer outcome l
+    refused n said =
+        let same : Refused n ≡ Is outcome = ap (λ (looked : Looked). looked .answer) said in
+        let z : _≡_ {A = ℕ} 0 1 = cc in
+        absurd (omega arith)
+
+    known : answered (ruled r base memory request) ≡ record { answer = Is outcome; list = l } → ProperAnswer outcome l
+    known said =
+        let same : Is (ruled r base memory request .answer) ≡ Is outcome = ap (λ (looked : Looked). looked .answer) said in
+        let same-outcome : ruled r base memory request .answer ≡ outcome = cc in
+        let same-list : piecesOf (ruled r base memory request .list) ≡ l = ap (λ (looked : Looked). looked .list) said in
+        rw (same-outcome, same-list) at (ruled-proper r base memory request)
 
 pub none-is-not-zero : NoneIsNotZero
 unfolding lookedUp refusal1 refusal2 refusal3 ruled lookupRule fromSte fromEntry streamRule steRule notThere run andThen fetched word oasSize sizeOf linear linearAt

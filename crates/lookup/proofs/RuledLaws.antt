@@ -21,9 +21,10 @@ use Rattle.registers.specs.declared.Registers.{Registers}
 use Rattle.registers.proofs.SizesLaws.{oas-at-most}
 use Rattle.memory_image.specs.Extent.{extentOf, refusal2}
 use Rattle.memory_image.specs.Words.{bytes}
-use Rattle.memory_image.specs.Rule.{Fetches, Every, run}
-use Rattle.memory_image.proofs.RunLaws.{fetches-then, run-few, every-then}
+use Rattle.memory_image.specs.Rule.{Fetches, Every, Gives, run}
+use Rattle.memory_image.proofs.RunLaws.{fetches-then, run-few, every-then, gives-then}
 use Rattle.answers.specs.Pieces.{none, piecesOf, runOn}
+use Rattle.answers.specs.Proper.{listedEvent, properOutcome}
 use Rattle.answers.specs.declared.Outcome.{Outcome}
 use Rattle.answers.specs.declared.Pieces.{Pieces}
 use Rattle.answers.proofs.PiecesLaws.{run-on-done, run-on-then, run-on-run, pieces-none}
@@ -31,14 +32,17 @@ use Rattle.stream_table.specs.StreamTable.{streamRule, walkedOn}
 use Rattle.stream_table.specs.declared.Found.{Found}
 use Rattle.stream_table.specs.declared.Found.the-variants as stream
 use Rattle.stream_table.specs.declared.Walked.{Walked}
-use Rattle.stream_table.proofs.StreamLaws.{stream-few, stream-every}
+use Rattle.stream_table.proofs.StreamLaws.{EndsProper as StreamProper, stream-few, stream-every, stream-proper}
 use Rattle.stream_entry.specs.StreamEntry.{steRule}
 use Rattle.stream_entry.specs.declared.Entry.{Entry}
 use Rattle.stream_entry.specs.declared.Entry.the-variants as entry
+use Rattle.stream_entry.proofs.Stage1Laws.{EndsProper as EntryProper}
+use Rattle.stream_entry.proofs.EntryLaws.{ste-proper}
 use Rattle.context_table.specs.ContextTable.{contextRule}
 use Rattle.context_table.specs.declared.Found.{Found as CdFound}
 use Rattle.context_table.specs.declared.Found.the-variants as context
-use Rattle.context_table.proofs.ContextLaws.{context-few, context-every}
+use Rattle.context_table.proofs.ContextLaws.{EndsProper as ContextProper, context-few, context-every, context-proper}
+use Rattle.context_entry.proofs.EntryLaws.{cd-proper}
 use Rattle.lookup.specs.Lookup.{fromCd, fromEntry, fromSte, lookupRule, lookedOn, ruled, refusedWith, answered, lookedUp}
 use Rattle.lookup.specs.declared.Looked.{Looked}
 use Rattle.lookup.specs.declared.Answer.the-variants.{Is}
@@ -89,6 +93,35 @@ module _ (P : ℕ → Type 0) (eight : P 8) (sixty-four : P 64) where
   lookup-every r request =
       every-then P (fromSte r (request .substream)) (ste-every r (request .substream)) (streamRule r (request .stream .number))
       (stream-every r (request .stream .number) P eight)
+
+-- whatever it can give is proper
+abbrev pub ProperOutcome : Outcome → Type 0
+ProperOutcome outcome = properOutcome outcome ≡ true
+
+cd-gives : (r : Registers) (ste : ℕ) (found : CdFound) → ContextProper found → Gives ProperOutcome (fromCd r ste found)
+unfolding fromCd properOutcome listedEvent
+cd-gives r ste (context.Ended outcome) proper = proper
+cd-gives r ste (context.Cd cd) proper = (refl, λ w. cd-proper r ste cd w)
+
+entry-gives :
+    (r : Registers) (ste : ℕ) (w : ℕ → ℕ) (says : Entry) → EntryProper says → Gives ProperOutcome (fromEntry r ste w says)
+unfolding fromEntry
+entry-gives r ste w (entry.Ended outcome) proper = proper
+entry-gives r ste w (entry.Stage1 index) proper =
+    gives-then ContextProper ProperOutcome (fromCd r ste) (cd-gives r ste) (contextRule w index) (context-proper w index)
+
+ste-gives :
+    (r : Registers) (substream : Substream) (found : Found) → StreamProper found → Gives ProperOutcome (fromSte r substream found)
+unfolding fromSte properOutcome listedEvent
+ste-gives r substream (stream.Ended outcome) proper = proper
+ste-gives r substream (stream.Ste ste) proper =
+    (refl, λ w. entry-gives r ste w (steRule r substream ste w) (ste-proper r substream ste w))
+
+pub lookup-gives : (r : Registers) (request : Request) → Gives ProperOutcome (lookupRule r request)
+unfolding lookupRule
+lookup-gives r request =
+    gives-then StreamProper ProperOutcome (fromSte r (request .substream)) (ste-gives r (request .substream))
+    (streamRule r (request .stream .number)) (stream-proper r (request .stream .number))
 
 -- what `power` gives for the size of this SMMU's addresses
 pub limit-is : (r : Registers) {size limit : ℕ} → size ≡ oasSize r → limit ≡ 2 ^ size % 2 ^ 64 → limit ≡ 2 ^ oasSize r

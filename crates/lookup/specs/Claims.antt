@@ -5,6 +5,7 @@
 --     RefusedExactly     each refusal is given exactly when its row of the table says, in the order 1, 2, 3
 --     OneAnswer, OnePart any two results that a promise allows for one input are equal
 --     NothingRead        nothing is read where SMMUEN is 0 or the StreamID is out of range
+--     AnswersProper      every answer is proper: its fields have their widths, its numbers are listed, its list is short and below 2^52
 --     NoneIsNotZero      a request without a SubstreamID and one with SubstreamID 0 get different answers, on concrete tables
 -- Assumes: nothing.
 use Prim.Native.Nat.{ℕ, _^_, _≤_}
@@ -27,7 +28,10 @@ use Rattle.memory_image.specs.Words.{bytes}
 use Rattle.memory_image.specs.declared.Piece.{Piece}
 use Rattle.memory_image.specs.declared.Fetched.{Fetched}
 use Rattle.answers.specs.Pieces.{none, EachPiece}
+use Rattle.answers.specs.Proper.{ProperAnswer}
+use Rattle.answers.specs.declared.Outcome.{Outcome}
 use Rattle.answers.specs.declared.Outcome.the-variants.{Abort, Bypass}
+use Rattle.answers.specs.declared.Pieces.{Pieces}
 use Rattle.stream_table.specs.StreamTable.{log2}
 use Rattle.lookup.specs.Lookup.{lookedUp, refusedWith, answered, ruled}
 use Rattle.lookup.specs.Part.{SteHanded}
@@ -80,6 +84,11 @@ abbrev pub NothingRead : Type 0
 NothingRead =
     (r : Registers) (base : ℕ) (memory : List ℕ) (request : Request)
     → (smmuEn r ≡ 0) ⊎ (2 ^ log2 r ≤ request .stream .number) → lookedUp r base memory request .list ≡ none
+
+abbrev pub AnswersProper : Type 0
+AnswersProper =
+    (r : Registers) (base : ℕ) (memory : List ℕ) (request : Request) (outcome : Outcome) (l : Pieces)
+    → lookedUp r base memory request ≡ record { answer = Is outcome; list = l } → ProperAnswer outcome l
 
 -- one STE of 64 bytes, V 1 and Config 100, in a linear table of one entry at address 0, with a 32-bit OAS
 abbrev pub smallRegisters : Registers

@@ -5,6 +5,7 @@
 --     run-then      what one rule and then another gives, and lists
 --     run-few       a rule of at most n fetches lists at most n pieces
 --     run-every     what holds of the length of whatever a rule fetches holds of each listed piece; every-then: of a chain
+--     run-gives     what holds of whatever a rule can give holds of its answer; gives-then: of a chain
 --     fetches-more, fetches-then   at most so many fetches is at most more; one rule and then another
 -- Assumes: nothing.
 use Prim.Native.Nat.{ℕ, zero, suc, _+_, _-_, _*_, _≤_, _<_}
@@ -18,7 +19,7 @@ use lib.ListN.{length}
 use Rattle.bit_fields.specs.Choice.{if_then_else_}
 use Rattle.memory_image.specs.Extent.{Extent, fetched}
 use Rattle.memory_image.specs.Words.{word}
-use Rattle.memory_image.specs.Rule.{Rule, done, fetch, Ran, piece, wordsAt, listed, run, andThen, Fetches, Every, Each, Lies, Agree}
+use Rattle.memory_image.specs.Rule.{Rule, done, fetch, Ran, piece, wordsAt, listed, run, andThen, Fetches, Every, Gives, Each, Lies, Agree}
 use Rattle.memory_image.specs.declared.Piece.{Piece}
 use Rattle.memory_image.proofs.ExtentLaws.{fetched-lies}
 use Rattle.memory_image.proofs.WordsLaws.{word-agree}
@@ -81,6 +82,20 @@ module _ {A : Type 0} (e : Extent) (limit : ℕ) (f : ℕ → ℕ) where
           → Each (λ p. P (p .length)) (run e limit f fault .list)
           → Each (λ p. P (p .length)) (run e limit f (fetch address n fault rest) .list)
       go true test on out = rw (run-had address n fault rest test) (all .0, on)
+      go false test on out = rw (run-fault address n fault rest test) out
+
+  pub run-gives : (P : A → Type 0) (t : Rule A) → Gives P t → P (run e limit f t .answer)
+  run-gives P (done x) all = rw (run-done x) all
+  run-gives P (fetch address n fault rest) all =
+      go (fetched e limit address (8 * n)) refl
+      (run-gives P (rest (wordsAt f (address - e .base) n)) (all .1 (wordsAt f (address - e .base) n)))
+      (run-gives P fault (all .0))
+    where
+      go :
+          (b : Bool) → fetched e limit address (8 * n) ≡ b
+          → P (run e limit f (rest (wordsAt f (address - e .base) n)) .answer) → P (run e limit f fault .answer)
+          → P (run e limit f (fetch address n fault rest) .answer)
+      go true test on out = rw (run-had address n fault rest test) on
       go false test on out = rw (run-fault address n fault rest test) out
 
 -- the words of a descriptor are those of any memory that agrees on its piece
@@ -175,3 +190,11 @@ unfolding andThen
 every-then P next more (done x) all = more x
 every-then P next more (fetch address n fault rest) all =
     (all .0, (every-then P next more fault (all .1 .0), λ w. every-then P next more (rest w) (all .1 .1 w)))
+
+pub gives-then :
+    {A B : Type 0} (P : A → Type 0) (Q : B → Type 0) (next : A → Rule B) → ((x : A) → P x → Gives Q (next x))
+    → (t : Rule A) → Gives P t → Gives Q (andThen t next)
+unfolding andThen
+gives-then P Q next more (done x) all = more x all
+gives-then P Q next more (fetch address n fault rest) all =
+    (gives-then P Q next more fault (all .0), λ w. gives-then P Q next more (rest w) (all .1 w))

@@ -4,6 +4,7 @@
 --     andThen     one rule, and then another from what it gives
 --     Fetches     at most so many fetches, whichever way a rule goes
 --     Every       something holds of the length of whatever is fetched, whichever way a rule goes
+--     Gives       something holds of whatever a rule can give, whichever way it goes
 --     Each        something holds of each piece of a list
 --     Lies        a piece lies in the memory and ends at or below the limit
 --     Agree       two memories have the same bytes in a piece
@@ -55,6 +56,10 @@ Fetches (suc most) (fetch address n fault rest) = Fetches (suc most) fault × ((
 abbrev pub Every : {A : Type 0} → (ℕ → Type 0) → Rule A → Type 0
 Every P (done x) = Unit {0}
 Every P (fetch address n fault rest) = P (8 * n) × (Every P fault × ((w : ℕ → ℕ) → Every P (rest w)))
+
+abbrev pub Gives : {A : Type 0} → (A → Type 0) → Rule A → Type 0
+Gives P (done x) = P x
+Gives P (fetch address n fault rest) = Gives P fault × ((w : ℕ → ℕ) → Gives P (rest w))
 
 abbrev pub Each : (Piece → Type 0) → List Piece → Type 0
 Each P [] = Unit {0}

@@ -3,22 +3,25 @@
 --     with-none, with-past, with-disabled, with-narrow, with-cd      step 8, with a SubstreamID
 --     without-alone, without-disabled, without-bypass, without-cd    step 8, without one
 --     stage-bad, stage-world, stage-without, stage-with     steps 6 to 8 in order
+--     stage-proper    where it ends, it ends with a proper outcome
 -- Assumes: nothing.
 use Prim.Native.Nat.{ℕ, _^_, _≤_, _<_}
 use native.Mathlib.Omega.{arith}
 use mathlib.Core.Path.{_≡_, refl, sym, ap, _∙_}
-use mathlib.Core.Bool.{Bool, true, false, not, _&&_}
+use mathlib.Core.Bool.{Bool, true, false, not, _&&_, _||_}
 use borrow.Author.Tests.{eq-eqb, ne-eqb, lt-ltb, le-ltb, le-leb, lt-leb, ltb-true, ltb-false, not-true, not-false}
 use lib.Dec.{eqb, leb, ltb}
 use lib.Pow.{pow-mono}
 use Rattle.bit_fields.specs.Bits.{field, inBits}
+use Rattle.bit_fields.specs.Choice.{if_then_else_}
 use Rattle.ids.specs.declared.Substream.{Substream}
 use Rattle.ids.specs.declared.Substream.the-variants.{Without, With}
 use Rattle.ids.specs.declared.SubstreamId.{SubstreamId}
 use Rattle.registers.specs.Fields.{hyp, cd2l, ssidSize}
 use Rattle.registers.specs.declared.Registers.{Registers}
+use Rattle.answers.specs.Proper.{listedEvent, listedCase, properOutcome}
 use Rattle.answers.specs.declared.Outcome.the-variants.{Abort, Bypass, Unserved}
-use Rattle.stream_entry.specs.StreamEntry.{s1Fmt, s1CdMax, s1Dss, strw, badStage1, withId, without, stage1Rule}
+use Rattle.stream_entry.specs.StreamEntry.{s1Fmt, s1CdMax, s1Dss, strw, badStage1, withId, without, substreamRule, stage1Rule}
 use Rattle.stream_entry.specs.declared.Entry.{Entry}
 use Rattle.stream_entry.specs.declared.Entry.the-variants.{Ended, Stage1}
 
@@ -124,3 +127,44 @@ module _ (r : Registers) (substream : Substream) (address : ℕ) (w : ℕ → �
       pub stage-with : {id : SubstreamId} → substream ≡ With id → entry ≡ withId w (id .number) → entry ≡ stage1Rule r substream address w
       unfolding stage1Rule
       stage-with one is = rw (is, one) (simp (← is-bad, good, ← is-hyp, ← is-world, ← tested, served))
+
+-- where it ends, it ends with a proper outcome
+abbrev pub EndsProper : Entry → Type 0
+EndsProper (Stage1 index) = Unit {0}
+EndsProper (Ended outcome) = properOutcome outcome ≡ true
+
+with-proper : (w : ℕ → ℕ) (n : ℕ) → EndsProper (withId w n)
+unfolding withId properOutcome listedEvent
+with-proper w n = go (eqb (s1CdMax w) 0 || leb (2 ^ s1CdMax w) n) (eqb n 0 && eqb (s1Dss w) 2)
+  where
+    go : (a b : Bool) → EndsProper (if a then Ended (Abort 8) else if b then Ended (Abort 6) else Stage1 n)
+    go true b = refl
+    go false true = refl
+    go false false = tt
+
+without-proper : (w : ℕ → ℕ) (address : ℕ) → EndsProper (without w address)
+unfolding without properOutcome listedEvent
+without-proper w address = go (eqb (s1CdMax w) 0) (eqb (s1Dss w) 0) (eqb (s1Dss w) 1)
+  where
+    go :
+        (a b c : Bool)
+        → EndsProper (if a then Stage1 0 else if b then Ended (Abort 6) else if c then Ended (Bypass address) else Stage1 0)
+    go true b c = tt
+    go false true c = refl
+    go false false true = refl
+    go false false false = tt
+
+substream-proper : (w : ℕ → ℕ) (substream : Substream) (address : ℕ) → EndsProper (substreamRule w substream address)
+substream-proper w Without address = without-proper w address
+substream-proper w (With id) address = with-proper w (id .number)
+
+pub stage-proper : (r : Registers) (substream : Substream) (address : ℕ) (w : ℕ → ℕ) → EndsProper (stage1Rule r substream address w)
+unfolding stage1Rule properOutcome listedEvent listedCase
+stage-proper r substream address w = go (badStage1 r w) (eqb (hyp r) 1 && not (eqb (strw w) 0))
+  where
+    go :
+        (a b : Bool)
+        → EndsProper (if a then Ended (Abort 4) else if b then Ended (Unserved 22) else substreamRule w substream address)
+    go true b = refl
+    go false true = refl
+    go false false = substream-proper w substream address

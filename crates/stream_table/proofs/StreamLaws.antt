@@ -3,6 +3,7 @@
 --     find-off, find-past, find-linear, find-two     steps 1 to 4
 --     stream-few, stream-every    at most one descriptor is fetched, and it is 8 bytes long
 --     stream-unread               where none is fetched whatever the memory holds
+--     stream-proper               where it ends, it ends with a proper outcome
 -- Assumes: nothing.
 use Prim.Native.Nat.{ℕ, _+_, _-_, _*_, _^_, _≤_, _<_}
 use native.Mathlib.Omega.{arith}
@@ -12,26 +13,29 @@ use mathlib.Core.List.{List}
 use mathlib.Core.Logic.{_⊎_, inl, inr}
 use borrow.Author.Tests.{eq-eqb, ne-eqb, le-leb, lt-leb, ltb-false, ltb-true, not-true, not-false}
 use lib.Dec.{eqb, leb, ltb}
-use Rattle.bit_fields.specs.Bits.{inBits}
+use Rattle.bit_fields.specs.Bits.{low, inBits}
 use Rattle.bit_fields.specs.Choice.{if_then_else_}
 use Rattle.registers.specs.Fields.{smmuEn}
 use Rattle.registers.specs.Fields as fields
 use Rattle.registers.specs.declared.Registers.{Registers}
 use Rattle.memory_image.specs.Extent.{extentOf, fetchRule}
 use Rattle.memory_image.specs.Words.{bytes, wordIn}
-use Rattle.memory_image.specs.Rule.{Rule, done, Fetches, Every}
+use Rattle.memory_image.specs.Rule.{Rule, done, Fetches, Every, Gives}
 use Rattle.memory_image.specs.declared.Piece.{Piece}
 use Rattle.memory_image.specs.declared.Fetched.{Fetched}
 use Rattle.memory_image.specs.declared.Fetched.the-variants.{At, Outside}
 use Rattle.answers.specs.Pieces.{pushed, runOn}
+use Rattle.answers.specs.Proper.{listedEvent, properOutcome}
 use Rattle.answers.specs.declared.Outcome.{Outcome}
-use Rattle.answers.specs.declared.Outcome.the-variants.{Abort}
+use Rattle.answers.specs.declared.Outcome.the-variants.{Abort, Quiet, BypassGlobal}
 use Rattle.answers.specs.declared.Pieces.{Pieces}
 use Rattle.answers.proofs.PiecesLaws.{run-on-done}
 use Rattle.answers.proofs.FetchLaws.{level-fault, level-read}
-use Rattle.stream_table.specs.StreamTable.{switchedOff, log2, linear, linearAt, splitOf, l1stdAt, leafRule, twoLevelRule, streamRule, walkedOn}
+use Rattle.stream_table.specs.StreamTable.{switchedOff, log2, linear, linearAt, splitOf, l1stdAt, holds, spanOf, inLeaf, leafRule, twoLevelRule, streamRule, walkedOn}
 use Rattle.stream_table.specs.declared.Found.{Found}
 use Rattle.stream_table.specs.declared.Found.the-variants.{Ste, Ended}
+use Rattle.stream_table.specs.declared.Leaf.{Leaf}
+use Rattle.stream_table.specs.declared.Leaf.the-variants.{Invalid, Holds}
 use Rattle.stream_table.specs.declared.Walked.{Walked}
 
 module _ (base : ℕ) (memory : List ℕ) (limit : ℕ) (r : Registers) (stream : ℕ) (l : Pieces) where
@@ -90,12 +94,37 @@ module _ (base : ℕ) (memory : List ℕ) (limit : ℕ) (r : Registers) (stream 
             → walked ≡ walkedOn base memory limit (streamRule r stream) l
         find-two deep is-code is-split walk = rw (to-kind, ← kind, deep, ← is-code, ← is-split) walk
 
--- what holds of a rule that is done and of the two-level one holds of the whole
+-- where it ends, it ends with a proper outcome
+abbrev pub EndsProper : Found → Type 0
+EndsProper (Ste ste) = Unit {0}
+EndsProper (Ended outcome) = properOutcome outcome ≡ true
+
+off-proper : (r : Registers) → properOutcome (switchedOff r) ≡ true
+unfolding switchedOff properOutcome
+off-proper r = go (eqb (fields.abort r) 1)
+  where
+    go : (a : Bool) → properOutcome (if a then Quiet else BypassGlobal) ≡ true
+    go true = refl
+    go false = refl
+
+leaf-proper : (split l1std stream : ℕ) → EndsProper (leafRule split l1std stream)
+unfolding leafRule properOutcome listedEvent
+leaf-proper split l1std stream = go (holds (spanOf l1std) split)
+  where
+    past : (a : Bool) (x : ℕ) → EndsProper (if a then Ended (Abort 2) else Ste x)
+    past true x = refl
+    past false x = tt
+
+    go : (leaf : Leaf) → EndsProper (inLeaf leaf l1std (low stream split))
+    go Invalid = refl
+    go (Holds n) = past (leb n (low stream split)) _
+
+-- what holds of a rule that is done, with a proper outcome where it ends, and of the two-level one holds of the whole
 module _ (r : Registers) (stream : ℕ) where
   stream-cases :
-      (Q : Rule Found → Type 0) → ((x : Found) → Q (done x)) → Q (twoLevelRule r (splitOf (fields.split r)) stream)
+      (Q : Rule Found → Type 0) → ((x : Found) → EndsProper x → Q (done x)) → Q (twoLevelRule r (splitOf (fields.split r)) stream)
       → Q (streamRule r stream)
-  unfolding streamRule
+  unfolding streamRule properOutcome listedEvent
   stream-cases Q finished deep = go (eqb (smmuEn r) 0) (leb (2 ^ log2 r) stream) (linear r)
     where
       go :
@@ -105,18 +134,23 @@ module _ (r : Registers) (stream : ℕ) where
           else if b then done (Ended (Abort 2))
           else if c then done (Ste (linearAt r stream))
           else twoLevelRule r (splitOf (fields.split r)) stream)
-      go true b c = finished (Ended (switchedOff r))
-      go false true c = finished (Ended (Abort 2))
-      go false false true = finished (Ste (linearAt r stream))
+      go true b c = finished (Ended (switchedOff r)) (off-proper r)
+      go false true c = finished (Ended (Abort 2)) refl
+      go false false true = finished (Ste (linearAt r stream)) tt
       go false false false = deep
 
   pub stream-few : Fetches 1 (streamRule r stream)
   unfolding twoLevelRule
-  stream-few = stream-cases (Fetches 1) (λ x. tt) (tt, λ w. tt)
+  stream-few = stream-cases (Fetches 1) (λ x proper. tt) (tt, λ w. tt)
 
   pub stream-every : (P : ℕ → Type 0) → P 8 → Every P (streamRule r stream)
   unfolding twoLevelRule
-  stream-every P eight = stream-cases (Every P) (λ x. tt) (eight, (tt, λ w. tt))
+  stream-every P eight = stream-cases (Every P) (λ x proper. tt) (eight, (tt, λ w. tt))
+
+  pub stream-proper : Gives EndsProper (streamRule r stream)
+  unfolding twoLevelRule properOutcome listedEvent
+  stream-proper =
+      stream-cases (Gives EndsProper) (λ x proper. proper) (refl, λ w. leaf-proper (splitOf (fields.split r)) (w 0) stream)
 
   pub stream-unread :
       (smmuEn r ≡ 0) ⊎ (2 ^ log2 r ≤ stream) → (outcome : Outcome) × (streamRule r stream ≡ done (Ended outcome))

@@ -1,0 +1,128 @@
+-- The tests of src/proper.rt, on plain values: a law for each way out.
+--     asid-wide, t0sz-wide, tg0-wide, widths-last       the widths of a translation's fields; the last decides
+--     event-is, event-other, case-is, case-other    a number that 01 lists, and one that it does not
+--     translate-tested .. unserved-tested               an outcome, by its cases
+--     address-past, length-last                         where a piece ends
+--     left-whole, left-less, left-past, left-none       the loop over the pieces: at its start, a turn, its two ends
+--     list-long, list-is                                a list: too long; else what its pieces say
+-- Assumes: nothing.
+use Prim.Native.Nat.{ℕ, suc, _+_, _-_, _^_, _≤_, _<_}
+use native.Mathlib.Omega.{arith}
+use mathlib.Core.Path.{_≡_, refl, sym, ap, _∙_}
+use mathlib.Core.Bool.{Bool, true, false, not, _&&_}
+use mathlib.Core.List.{List}
+use borrow.Author.Tests.{ne-eqb, lt-ltb, le-ltb, le-leb, lt-leb, leb-true, leb-false, not-true, not-false}
+use lib.Dec.{leb, ltb}
+use lib.ListN.{getD}
+use Rattle.memory_image.specs.declared.Piece.{Piece}
+use Rattle.answers.specs.Pieces.{nothing}
+use Rattle.answers.specs.Proper.{properFields, listedEvent, listedCase, properOutcome, endsBelow, endBelowFrom, properPieces}
+use Rattle.answers.specs.declared.Outcome.{Outcome}
+use Rattle.answers.specs.declared.Outcome.the-variants.{Translate, Bypass, BypassGlobal, Abort, Quiet, Unserved}
+use Rattle.answers.specs.declared.Translation.{Translation}
+use Rattle.answers.specs.declared.Pieces.{Pieces}
+
+module _ (t : Translation) where
+  pub asid-wide : 2 ^ 16 ≤ t .asid → false ≡ properFields t
+  unfolding properFields
+  asid-wide wide = simp (le-ltb _ _ wide)
+
+  module _ (asid : t .asid < 2 ^ 16) where
+    pub t0sz-wide : 2 ^ 6 ≤ t .t0sz → false ≡ properFields t
+    unfolding properFields
+    t0sz-wide wide = simp (lt-ltb _ _ asid, le-ltb _ _ wide)
+
+    module _ (t0sz : t .t0sz < 2 ^ 6) where
+      pub tg0-wide : 2 ^ 2 ≤ t .tg0 → false ≡ properFields t
+      unfolding properFields
+      tg0-wide wide = simp (lt-ltb _ _ asid, lt-ltb _ _ t0sz, le-ltb _ _ wide)
+
+      pub widths-last : t .tg0 < 2 ^ 2 → ltb (t .epd0) 2 ≡ properFields t
+      unfolding properFields
+      widths-last tg0 = simp (lt-ltb _ _ asid, lt-ltb _ _ t0sz, lt-ltb _ _ tg0)
+
+pub event-is : (k : ℕ) → listedEvent k ≡ true → (event : ℕ) → event ≡ k → true ≡ listedEvent event
+event-is k listed event is = sym (ap listedEvent is ∙ listed)
+
+pub case-is : (k : ℕ) → listedCase k ≡ true → (n : ℕ) → n ≡ k → true ≡ listedCase n
+case-is k listed n is = sym (ap listedCase is ∙ listed)
+
+module _ (event : ℕ) where
+  pub event-other :
+      (event ≡ 2 → ⊥) → (event ≡ 3 → ⊥) → (event ≡ 4 → ⊥) → (event ≡ 6 → ⊥) → (event ≡ 8 → ⊥) → (event ≡ 9 → ⊥)
+      → (event ≡ 10 → ⊥) → false ≡ listedEvent event
+  unfolding listedEvent
+  event-other a b c d e f g =
+      simp (ne-eqb _ _ a, ne-eqb _ _ b, ne-eqb _ _ c, ne-eqb _ _ d, ne-eqb _ _ e, ne-eqb _ _ f, ne-eqb _ _ g)
+
+module _ (n : ℕ) where
+  pub case-other : (n ≡ 20 → ⊥) → (n ≡ 21 → ⊥) → (n ≡ 22 → ⊥) → false ≡ listedCase n
+  unfolding listedCase
+  case-other a b c = simp (ne-eqb _ _ a, ne-eqb _ _ b, ne-eqb _ _ c)
+
+module _ (outcome : Outcome) where
+  pub translate-tested : {t : Translation} {test : Bool} → outcome ≡ Translate t → test ≡ properFields t → test ≡ properOutcome outcome
+  unfolding properOutcome
+  translate-tested is tested = rw (is, tested)
+
+  pub bypass-tested : {ste : ℕ} → outcome ≡ Bypass ste → true ≡ properOutcome outcome
+  unfolding properOutcome
+  bypass-tested is = rw is
+
+  pub global-tested : outcome ≡ BypassGlobal → true ≡ properOutcome outcome
+  unfolding properOutcome
+  global-tested is = rw is
+
+  pub abort-tested : {event : ℕ} {test : Bool} → outcome ≡ Abort event → test ≡ listedEvent event → test ≡ properOutcome outcome
+  unfolding properOutcome
+  abort-tested is tested = rw (is, tested)
+
+  pub quiet-tested : outcome ≡ Quiet → true ≡ properOutcome outcome
+  unfolding properOutcome
+  quiet-tested is = rw is
+
+  pub unserved-tested : {n : ℕ} {test : Bool} → outcome ≡ Unserved n → test ≡ listedCase n → test ≡ properOutcome outcome
+  unfolding properOutcome
+  unserved-tested is tested = rw (is, tested)
+
+module _ (address length : ℕ) where
+  pub address-past : 2 ^ 52 < address → false ≡ leb (address + length) (2 ^ 52)
+  address-past past = sym (lt-leb (address + length) (2 ^ 52) (omega arith))
+
+  pub length-last : address ≤ 2 ^ 52 → leb length (2 ^ 52 - address) ≡ leb (address + length) (2 ^ 52)
+  length-last fits = go (leb length (2 ^ 52 - address)) refl
+    where
+      go : (b : Bool) → leb length (2 ^ 52 - address) ≡ b → b ≡ leb (address + length) (2 ^ 52)
+      go true is = let short = leb-true length (2 ^ 52 - address) is in sym (le-leb (address + length) (2 ^ 52) (omega arith))
+      go false is = let long = leb-false length (2 ^ 52 - address) is in sym (lt-leb (address + length) (2 ^ 52) (omega arith))
+
+-- the loop over the pieces: what is left says what the whole says
+pub record Left (pieces : List Piece) (n i : ℕ) : Type 0 where
+  pub inside : i ≤ n
+  pub same : endBelowFrom pieces n 0 ≡ endBelowFrom pieces (n - i) i
+
+module _ (pieces : List Piece) (n : ℕ) where
+  pub left-whole : Left pieces n 0
+  left-whole = let all : n - 0 ≡ n = omega arith in record { inside = omega arith; same = rw all }
+
+  module _ {i : ℕ} (left : Left pieces n i) (more : i < n) {test : Bool} (tested : test ≡ endsBelow (getD pieces i nothing)) where
+    one : endBelowFrom pieces n 0 ≡ (test && endBelowFrom pieces (n - (i + 1)) (i + 1))
+    one = let fuel : n - i ≡ suc (n - (i + 1)) = omega arith in left .same ∙ rw (fuel, tested)
+
+    pub left-less : not test ≡ false → Left pieces n (i + 1)
+    left-less fits = record { inside = omega arith; same = one ∙ rw (not-false test fits) }
+
+    pub left-past : not test ≡ true → endBelowFrom pieces n 0 ≡ false
+    left-past past = one ∙ rw (not-true test past)
+
+  pub left-none : {i : ℕ} → Left pieces n i → n ≤ i → endBelowFrom pieces n 0 ≡ true
+  left-none {i} left end = let fuel : n - i ≡ 0 = omega arith in left .same ∙ rw fuel
+
+module _ (l : Pieces) where
+  pub list-long : 4 < l .count → false ≡ properPieces l
+  unfolding properPieces
+  list-long many = simp (lt-leb _ _ many)
+
+  pub list-is : l .count ≤ 4 → {test : Bool} → endBelowFrom (l .piece) (l .count) 0 ≡ test → test ≡ properPieces l
+  unfolding properPieces
+  list-is few is = simp (le-leb _ _ few) (sym is)

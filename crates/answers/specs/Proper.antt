@@ -1,0 +1,61 @@
+-- What every answer of a lookup has (01, "What an answer holds", "When the bench says no", row 7).
+--     properOutcome      the fields of a translation have their widths, and an event or unserved number is one of those listed
+--     properPieces       at most four pieces, and none that is counted ends past 2^52
+--     ProperAnswer       an outcome and a list that are proper, in an array of four: what a book may keep
+-- Assumes: nothing.
+use Prim.Native.Nat.{ℕ, zero, suc, _+_}
+use mathlib.Core.Path.{_≡_}
+use mathlib.Core.Bool.{Bool, true, _&&_, _||_}
+use mathlib.Core.List.{List}
+use lib.Dec.{eqb, leb}
+use lib.ListN.{length, getD}
+use Rattle.bit_fields.specs.Bits.{inBits}
+use Rattle.memory_image.specs.Extent.{addressTop}
+use Rattle.memory_image.specs.declared.Piece.{Piece}
+use Rattle.answers.specs.Outcome.{cBadStreamId, fSteFetch, cBadSte, fStreamDisabled, cBadSubstreamId, fCdFetch, cBadCd, stage2, vmsa32, streamWorld}
+use Rattle.answers.specs.Pieces.{piecesMost, nothing}
+use Rattle.answers.specs.declared.Outcome.{Outcome}
+use Rattle.answers.specs.declared.Outcome.the-variants.{Translate, Bypass, BypassGlobal, Abort, Quiet, Unserved}
+use Rattle.answers.specs.declared.Translation.{Translation}
+use Rattle.answers.specs.declared.Pieces.{Pieces}
+
+-- ASID [63:48], T0SZ [5:0], TG0 [7:6], EPD0 [14]
+unfoldable pub properFields : Translation → Bool
+properFields t = inBits (t .asid) 16 && (inBits (t .t0sz) 6 && (inBits (t .tg0) 2 && inBits (t .epd0) 1))
+
+-- C_BAD_STREAMID 0x02, F_STE_FETCH 0x03, C_BAD_STE 0x04, F_STREAM_DISABLED 0x06, C_BAD_SUBSTREAMID 0x08, F_CD_FETCH 0x09, C_BAD_CD 0x0A
+unfoldable pub listedEvent : ℕ → Bool
+listedEvent event =
+    eqb event cBadStreamId
+    || (eqb event fSteFetch
+    || (eqb event cBadSte
+    || (eqb event fStreamDisabled || (eqb event cBadSubstreamId || (eqb event fCdFetch || eqb event cBadCd)))))
+
+-- unserved 20, 21 or 22
+unfoldable pub listedCase : ℕ → Bool
+listedCase n = eqb n stage2 || (eqb n vmsa32 || eqb n streamWorld)
+
+unfoldable pub properOutcome : Outcome → Bool
+properOutcome (Translate t) = properFields t
+properOutcome (Bypass ste) = true
+properOutcome BypassGlobal = true
+properOutcome (Abort event) = listedEvent event
+properOutcome Quiet = true
+properOutcome (Unserved n) = listedCase n
+
+-- a piece that ends at or below 2^52
+abbrev pub endsBelow : Piece → Bool
+endsBelow p = leb (p .address + p .length) addressTop
+
+-- so many pieces do, from a place of the array on
+abbrev pub endBelowFrom : List Piece → ℕ → ℕ → Bool
+endBelowFrom pieces zero i = true
+endBelowFrom pieces (suc m) i = endsBelow (getD pieces i nothing) && endBelowFrom pieces m (i + 1)
+
+unfoldable pub properPieces : Pieces → Bool
+properPieces l = leb (l .count) piecesMost && endBelowFrom (l .piece) (l .count) 0
+
+pub record ProperAnswer (outcome : Outcome) (l : Pieces) : Type 0 where
+  pub outcome-proper : properOutcome outcome ≡ true
+  pub list-proper : properPieces l ≡ true
+  pub array-full : length (l .piece) ≡ piecesMost

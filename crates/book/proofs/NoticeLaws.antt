@@ -1,0 +1,93 @@
+-- Each way out of a notice, on plain values.
+--     share-below, share-above         whether a piece and a notice share an address, by which starts first
+--     touch-empty, touch-held          one slot
+--     strike-hit, strike-miss          a slot struck, and one left
+--     notice-malformed, notice-start, notice-end, notice-done
+-- Assumes: nothing.
+use Prim.Native.Nat.{ℕ, _+_, _-_, _≤_, _<_, min, max}
+use native.Mathlib.Omega.{arith}
+use mathlib.Core.Path.{_≡_, refl, sym, ap, _∙_}
+use mathlib.Core.Bool.{Bool, true, false, not, _&&_}
+use mathlib.Core.List.{List}
+use borrow.Author.Tests.{eq-eqb, ne-eqb, lt-ltb, le-ltb, ltb-true, ltb-false}
+use lib.Dec.{ltb}
+use lib.ListN.{set}
+use Rattle.memory_image.specs.declared.Piece.{Piece}
+use Rattle.answers.specs.declared.Pieces.{Pieces}
+use Rattle.answer_words.specs.AnswerWords.{listOf}
+use Rattle.book.specs.Layout.{keyAt, blockAt}
+use Rattle.book.specs.Malformed.{refusal7}
+use Rattle.book.specs.Book.{shares, sharedFrom, touched, strike, struckFrom, noticeSays, Noticed}
+use Rattle.book.specs.declared.Said.the-variants as said
+
+-- two tests at once, where their meeting says the same
+meets :
+    (a b c d x y : ℕ) → (a < b → c < d → x < y) → (b ≤ a → y ≤ x) → (d ≤ c → y ≤ x) → (ltb a b && ltb c d) ≡ ltb x y
+meets a b c d x y meet left right = go (ltb a b) refl (ltb c d) refl
+  where
+    go : (p : Bool) → ltb a b ≡ p → (q : Bool) → ltb c d ≡ q → p && q ≡ ltb x y
+    go true e true f = sym (lt-ltb x y (meet (ltb-true a b e) (ltb-true c d f)))
+    go true e false f = sym (le-ltb x y (right (ltb-false c d f)))
+    go false e q f = sym (le-ltb x y (left (ltb-false a b e)))
+
+module _ (start size : ℕ) (p : Piece) where
+  pub share-below :
+      start ≤ p .address → {r : Bool} → r ≡ (ltb (p .address - start) size && ltb 0 (p .length)) → r ≡ shares start size p
+  unfolding shares
+  share-below below is =
+      is
+      ∙ meets (p .address - start) size 0 (p .length) (max (p .address) start) (min (p .address + p .length) (start + size))
+      (λ a b. omega arith) (λ a. omega arith) (λ a. omega arith)
+
+  pub share-above :
+      p .address < start → {r : Bool} → r ≡ (ltb (start - p .address) (p .length) && ltb 0 size) → r ≡ shares start size p
+  unfolding shares
+  share-above above is =
+      is
+      ∙ meets (start - p .address) (p .length) 0 size (max (p .address) start) (min (p .address + p .length) (start + size))
+      (λ a b. omega arith) (λ a. omega arith) (λ a. omega arith)
+
+module _ (ws : List ℕ) (start size i : ℕ) where
+  pub touch-empty : keyAt ws i ≡ 0 → false ≡ touched ws start size i
+  unfolding touched
+  touch-empty none = simp (eq-eqb _ _ none)
+
+  pub touch-held :
+      (keyAt ws i ≡ 0 → ⊥) → {block : List ℕ} → block ≡ blockAt ws i → {list : Pieces} → list ≡ listOf block
+      → {r : Bool} → r ≡ sharedFrom start size (list .piece) (min (list .count) 4) 0 → r ≡ touched ws start size i
+  unfolding touched
+  touch-held held is-block is-list is = rw (is, is-list, is-block) (simp (ne-eqb _ _ held))
+
+  module _ {r : Bool} (is : r ≡ touched ws start size i) where
+    pub strike-hit : r ≡ true → set ws (11 + i) 0 ≡ strike ws start size i
+    unfolding strike
+    strike-hit so = simp (← is, so)
+
+    pub strike-miss : r ≡ false → ws ≡ strike ws start size i
+    unfolding strike
+    strike-miss so = simp (← is, so)
+
+module _ (ws : List ℕ) (start size : ℕ) {bad : Bool} (is-bad : bad ≡ refusal7 ws) where
+  pub notice-malformed : bad ≡ true → Noticed ws start size (said.Refused 7) ws
+  unfolding noticeSays
+  notice-malformed so = record { result = simp (← is-bad, so); book = simp (← is-bad, so) }
+
+  module _ (good : bad ≡ false) where
+    past : 4503599627370496 < start + size → Noticed ws start size (said.Refused 5) ws
+    unfolding noticeSays
+    past is = record { result = simp (← is-bad, good, lt-ltb _ _ is); book = simp (← is-bad, good, lt-ltb _ _ is) }
+
+    pub notice-start : 4503599627370496 < start → Noticed ws start size (said.Refused 5) ws
+    notice-start is = past (omega arith)
+
+    module _ (low : start ≤ 4503599627370496) where
+      pub notice-end : 4503599627370496 - start < size → Noticed ws start size (said.Refused 5) ws
+      notice-end is = past (omega arith)
+
+      pub notice-done :
+          size ≤ 4503599627370496 - start → {after : List ℕ} → after ≡ struckFrom ws start size 64 0
+          → Noticed ws start size said.Done after
+      unfolding noticeSays
+      notice-done fits is =
+          let ends : start + size ≤ 4503599627370496 = omega arith in
+          record { result = simp (← is-bad, good, le-ltb _ _ ends); book = is ∙ simp (← is-bad, good, le-ltb _ _ ends) }

@@ -1,0 +1,43 @@
+-- Proof of `book::open`: the refusals in their order, and every word.
+-- Assumes: nothing.
+use borrow.Author.Needs.{needs}
+use Rattle.book.proofs.AskLaws.{open-first, open-second, open-none, open-many, open-done}
+use Rattle.book.proofs.open.Statement.{statement}
+use Rattle.book.proofs.open.Tie as tie
+
+refused-requires : tie.Need-refused-requires
+refused-requires c κs = search needs
+
+returns : tie.Need-returns
+returns c = search (needs, open-first)
+
+refused-requires-2 : tie.Need-refused-requires-2
+refused-requires-2 c κs = search needs
+
+returns-2 : tie.Need-returns-2
+returns-2 c = search (needs, open-second)
+
+returns-3 : tie.Need-returns-3
+returns-3 c = search (needs, open-none)
+
+returns-4 : tie.Need-returns-4
+returns-4 c = search (needs, open-many)
+
+fill-requires : tie.Need-fill-requires
+fill-requires c κs = search needs
+
+returns-5 : tie.Need-returns-5
+returns-5 c = search (needs, open-done)
+
+pub open-spec : {M : Type 1} → statement M
+open-spec =
+    tie.close
+    (tie.spec
+    refused-requires
+    returns
+    refused-requires-2
+    returns-2
+    returns-3
+    returns-4
+    fill-requires
+    returns-5)

@@ -1,0 +1,64 @@
+-- Proof of `book::strike::any_shares`: what is left of the list is the whole of it.
+-- Assumes: nothing.
+use borrow.Author.Needs.{needs}
+use native.Mathlib.Omega.{arith}
+use Prim.Native.Nat.{_≤_, _-_}
+use native.Mathlib.Nat.{sub-zero}
+use mathlib.Core.Path.{_≡_}
+use Rattle.book.specs.Book.{sharedFrom}
+use Rattle.book.proofs.ScanLaws.{any-none, any-found, any-more}
+use Rattle.book.proofs.strike.any_shares.Statement.{statement}
+use Rattle.book.proofs.strike.any_shares.Tie as tie
+
+abbrev Inv-loop : tie.InvT-loop
+Inv-loop start size n piece j₀ j = (j ≤ n) × (n ≤ 4) × (sharedFrom start size piece n 0 ≡ sharedFrom start size piece (n - j) j)
+
+abbrev μ-loop : tie.MeasureT-loop
+μ-loop start size n piece j₀ j = n - j
+
+smaller-requires : tie.Need-smaller-requires Inv-loop μ-loop
+smaller-requires c κs = search needs
+
+loop-holds : tie.Need-loop-holds Inv-loop μ-loop
+loop-holds c = (omega arith, omega arith, rw sub-zero)
+
+mul-p : tie.Need-mul-p Inv-loop μ-loop
+mul-p c = omega arith
+
+array-copy-out-p : tie.Need-array-copy-out-p Inv-loop μ-loop
+array-copy-out-p c = omega arith
+
+share-requires : tie.Need-share-requires Inv-loop μ-loop
+share-requires c κs = search needs
+
+returns : tie.Need-returns Inv-loop μ-loop
+returns c = search (needs, any-found)
+
+add-j : tie.Need-add-j Inv-loop μ-loop
+add-j c = omega arith
+
+loop-less : tie.Need-loop-less Inv-loop μ-loop
+loop-less c = omega arith
+
+loop-again : tie.Need-loop-again Inv-loop μ-loop
+loop-again c = (omega arith, omega arith, search (needs, any-more))
+
+returns-2 : tie.Need-returns-2 Inv-loop μ-loop
+returns-2 c = search (needs, any-none)
+
+pub any-shares-spec : {M : Type 1} → statement M
+any-shares-spec =
+    tie.close
+    (tie.spec
+    Inv-loop
+    μ-loop
+    smaller-requires
+    loop-holds
+    mul-p
+    array-copy-out-p
+    share-requires
+    returns
+    add-j
+    loop-less
+    loop-again
+    returns-2)

@@ -1,0 +1,39 @@
+-- Proof of `book::strike::strike_all`: what is left to strike is the whole of it.
+-- Assumes: nothing.
+use borrow.Author.Needs.{needs}
+use native.Mathlib.Omega.{arith}
+use Prim.Native.Nat.{_≤_, _-_}
+use mathlib.Core.Path.{_≡_, refl}
+use Rattle.book.specs.Book.{struckFrom}
+use Rattle.book.proofs.ScanLaws.{all-struck, more-struck}
+use Rattle.book.proofs.strike.strike_all.Statement.{statement}
+use Rattle.book.proofs.strike.strike_all.Tie as tie
+
+abbrev Inv-loop : tie.InvT-loop
+Inv-loop book₀ start size i₀ book i = (i ≤ 64) × (struckFrom book₀ start size 64 0 ≡ struckFrom book start size (64 - i) i)
+
+abbrev μ-loop : tie.MeasureT-loop
+μ-loop book₀ start size i₀ book i = 64 - i
+
+loop-holds : tie.Need-loop-holds Inv-loop μ-loop
+loop-holds c = (omega arith, refl)
+
+strike-slot-requires : tie.Need-strike-slot-requires Inv-loop μ-loop
+strike-slot-requires c κs = search needs
+
+add-i : tie.Need-add-i Inv-loop μ-loop
+add-i c = omega arith
+
+loop-less : tie.Need-loop-less Inv-loop μ-loop
+loop-less c = omega arith
+
+loop-again : tie.Need-loop-again Inv-loop μ-loop
+loop-again c = (omega arith, search (needs, more-struck))
+
+returns : tie.Need-returns Inv-loop μ-loop
+returns c = search (needs, all-struck)
+
+pub strike-all-spec : {M : Type 1} → statement M
+strike-all-spec =
+    tie.close
+    (tie.spec Inv-loop μ-loop loop-holds strike-slot-requires add-i loop-less loop-again returns)
