@@ -2,3 +2,5 @@
 pub mod Layout
 pub mod Malformed
 pub mod Book
+pub mod History
+pub mod Claims

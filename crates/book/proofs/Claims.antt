@@ -1,0 +1,209 @@
+-- The claims of specs/Claims.antt, each under its own name.
+-- Assumes: nothing.
+use Prim.Native.Nat.{ℕ, zero, suc, _+_, _-_, _^_, _≤_, _<_, min, max}
+use native.Mathlib.Omega.{arith}
+use mathlib.Core.Path.{_≡_, refl, sym, ap, _∙_}
+use mathlib.Core.Bool.{Bool, true, false, not, _&&_}
+use mathlib.Core.List.{List}
+use borrow.Author.Tests.{eq-eqb, lt-ltb, le-ltb, ltb-true, ltb-false, eqb-true}
+use lib.Dec.{eqb, ltb}
+use lib.ListN.{length}
+use Rattle.bit_fields.specs.Choice.{if_then_else_}
+use Rattle.ids.specs.Ids.{refusal3}
+use Rattle.ids.specs.Packing.{packed, unpacked}
+use Rattle.ids.specs.declared.Request.{Request}
+use Rattle.ids.specs.declared.Unpacked.the-variants.{Is}
+use Rattle.ids.proofs.PackingLaws.{unpack-pack}
+use Rattle.registers.specs.declared.Registers.{Registers}
+use Rattle.memory_image.specs.Extent.{extentOf, refusal2}
+use Rattle.memory_image.specs.declared.Piece.{Piece}
+use Rattle.answers.specs.declared.Outcome.{Outcome}
+use Rattle.answers.specs.declared.Pieces.{Pieces}
+use Rattle.answer_words.specs.AnswerWords.{outcomeOf, listOf}
+use Rattle.lookup.specs.Lookup.{lookedUp}
+use Rattle.lookup.specs.declared.Looked.{Looked}
+use Rattle.lookup.specs.declared.Answer.{Answer}
+use Rattle.lookup.specs.declared.Answer.the-variants as looked
+use Rattle.lookup.proofs.Claims.{refused-exactly}
+use Rattle.book.specs.Claims.{NeverStale, StillGood, NeverMalformed, StrikesExactly, Shared, SharesMeans, LowestEmpty, KeptChangesNothing, FullChangesNothing, RefusedChangesNothing, StartsEmpty, lookedIn, askedAfter}
+use Rattle.book.specs.Layout.{slotsOf, registersOf, baseOf, lengthOf, keyAt, blockAt}
+use Rattle.book.specs.Malformed.{firstFrom, refusal7}
+use Rattle.book.specs.Book.{slotOf, emptySlot, newly, nowHolding, otherExtent, refusedWith, askResult, askBook, newLookup, shares, touched, struckFrom}
+use Rattle.book.specs.History.{State, Step, run, Clean, Began}
+use Rattle.book.specs.declared.Asked.{Asked}
+use Rattle.book.specs.declared.Reply.the-variants.{Refused, KeptBefore, NewlyKept, NotKept}
+use Rattle.book.proofs.StruckLaws.{struck-else, struck-key}
+use Rattle.book.proofs.WellLaws.{Well, well-from, first-key, first-low}
+use Rattle.book.proofs.KeepsLaws.{opened-empty}
+use Rattle.book.proofs.HistoryLaws.{Sound, heldIn, run-sound, open-sound}
+
+-- after any history
+after : (r : Registers) (base : ℕ) (s : State) → Began r base s → (ts : List Step) → Sound r base (run base s ts)
+after r base s began ts = run-sound r base ts s (open-sound r base s began)
+
+pub still-good : StillGood
+still-good r base s began ts i small held clean request is = after r base s began ts .fresh i small held clean request is
+
+pub never-malformed : NeverMalformed
+never-malformed r base s began ts = well-from _ (after r base s began ts .well)
+
+-- an ask of a book that is sound, where nothing is dirty
+module _ (r : Registers) (base : ℕ) (s : State) (h : Sound r base s) (clean : (a : ℕ) → s .dirty a ≡ false) (request : Request)
+    (narrow : request .stream .number < 2 ^ 32) (third : refusal3 request ≡ false) where
+  new-is : newLookup (s .words) base (s .memory) request ≡ lookedUp r base (s .memory) request
+  new-is = rw (h .registers)
+
+  passed : refusal2 (extentOf base (s .memory)) ≡ false
+  passed = rw (h .base-is, h .length-is) at (h .well .extent)
+
+  -- the lookup refuses nothing that the book has let through
+  answers-it : (answer : Answer) (l : Pieces) → lookedUp r base (s .memory) request ≡ record { answer = answer; list = l } → (room : Bool)
+      → lookedIn (newly room answer l) ≡ record { answer = answer; list = l }
+  answers-it (looked.Refused n) l is room =
+      let first = rw (h .registers) at (h .well .registers) in
+      let said = refused-exactly r base (s .memory) request .answer first passed third in
+      let one = ap (λ (x : Looked). x .answer) (sym said ∙ is) in
+      let z : _≡_ {A = ℕ} 0 1 = cc in
+      absurd (omega arith)
+  answers-it (looked.Is outcome) l is true = refl
+  answers-it (looked.Is outcome) l is false = refl
+
+  from-slot :
+      slotOf (s .words) request < slotsOf (s .words)
+      → heldIn (blockAt (s .words) (slotOf (s .words) request)) ≡ lookedUp r base (s .memory) request
+  from-slot found =
+      let i = slotOf (s .words) request in
+      let key : keyAt (s .words) i ≡ packed request + 1 = first-key (slotsOf (s .words)) (s .words) (packed request + 1) 0 (omega arith) in
+      let few = h .well .few in
+      let back : packed request + 1 - 1 ≡ packed request = omega arith in
+      let is : unpacked (keyAt (s .words) i - 1) ≡ Is request =
+      rw (key, back) (unpack-pack request (record { stream = narrow; substream = third })) in
+      sym (h .fresh i (omega arith) (λ none. omega arith) (λ j counted a from to. clean a) request is)
+
+  pub asked-fresh : lookedIn (askedAfter base s request) ≡ lookedUp r base (s .memory) request
+  unfolding askResult
+  asked-fresh =
+      simp (well-from _ (h .well), eq-eqb base (baseOf (s .words)) (sym (h .base-is)), eq-eqb _ _ (sym (h .length-is)), third)
+      (go (ltb (slotOf (s .words) request) (slotsOf (s .words))) refl)
+    where
+      new : Looked
+      new = newLookup (s .words) base (s .memory) request
+
+      go :
+          (t : Bool) → ltb (slotOf (s .words) request) (slotsOf (s .words)) ≡ t
+          → lookedIn
+          (if t
+          then record {
+            reply = KeptBefore (outcomeOf (blockAt (s .words) (slotOf (s .words) request)));
+            list = listOf (blockAt (s .words) (slotOf (s .words) request));
+          }
+          else newly (ltb (emptySlot (s .words)) (slotsOf (s .words))) (new .answer) (new .list))
+          ≡ lookedUp r base (s .memory) request
+      go true e = from-slot (ltb-true _ _ e)
+      go false e = answers-it (new .answer) (new .list) (sym new-is) (ltb (emptySlot (s .words)) (slotsOf (s .words))) ∙ new-is
+
+pub never-stale : NeverStale
+never-stale r base s began ts clean request narrow third =
+    asked-fresh r base (run base s ts) (after r base s began ts) clean request narrow third
+
+-- a notice
+pub strikes-exactly : (ws : List ℕ) (start size : ℕ) → length ws ≡ 1227 → StrikesExactly ws start size
+strikes-exactly ws start size full =
+    record {
+      key = λ i small. struck-key start size 64 ws 0 i full (omega arith) (omega arith) (omega arith);
+      rest = λ x other. struck-else start size 64 ws 0 x (λ j from to is. other j (omega arith) is);
+    }
+
+pub shares-means : SharesMeans
+unfolding shares
+shares-means start size p = (
+  λ is.
+      let meet : max (p .address) start < min (p .address + p .length) (start + size) = ltb-true _ _ is in
+      record {
+        address = max (p .address) start;
+        from = omega arith;
+        to = omega arith;
+        noticed-from = omega arith;
+        noticed-to = omega arith;
+      },
+  λ one.
+      let a = one .from in
+      let b = one .to in
+      let c = one .noticed-from in
+      let d = one .noticed-to in
+      lt-ltb (max (p .address) start) (min (p .address + p .length) (start + size)) (omega arith),
+)
+
+-- asks
+pub lowest-empty : LowestEmpty
+lowest-empty ws found = (
+  first-key (slotsOf ws) ws 0 0 (omega arith),
+  λ i less is. let low = first-low (slotsOf ws) ws 0 0 i is (omega arith) (omega arith) in omega arith,
+)
+
+pub kept-changes-nothing : KeptChangesNothing
+unfolding askBook
+kept-changes-nothing ws base size request new found =
+    simp (lt-ltb _ _ found) (go (refusal7 ws) (otherExtent ws base size) (refusal3 request))
+  where
+    go : (a b c : Bool) → (if a then ws else if b then ws else if c then ws else ws) ≡ ws
+    go true b c = refl
+    go false true c = refl
+    go false false true = refl
+    go false false false = refl
+
+pub full-changes-nothing : FullChangesNothing
+unfolding askBook
+full-changes-nothing ws base size request new full =
+    simp (le-ltb _ _ full)
+    (go (refusal7 ws) (otherExtent ws base size) (refusal3 request) (ltb (slotOf ws request) (slotsOf ws)) (new .answer))
+  where
+    go :
+        (a b c d : Bool) (answer : Answer)
+        → (if a then ws
+        else if b then ws
+        else if c then ws
+        else if d then ws
+        else nowHolding false ws (emptySlot ws) (packed request + 1) answer (new .list))
+        ≡ ws
+    go true b c d answer = refl
+    go false true c d answer = refl
+    go false false true d answer = refl
+    go false false false true answer = refl
+    go false false false false (looked.Refused n) = refl
+    go false false false false (looked.Is outcome) = refl
+
+pub refused-changes-nothing : RefusedChangesNothing
+unfolding askBook askResult
+refused-changes-nothing ws base size request new n is =
+    go (refusal7 ws) (otherExtent ws base size) (refusal3 request) (ltb (slotOf ws request) (slotsOf ws))
+    (ltb (emptySlot ws) (slotsOf ws)) (new .answer) is
+  where
+    block : List ℕ
+    block = blockAt ws (slotOf ws request)
+
+    go :
+        (a b c d e : Bool) (answer : Answer)
+        → (if a then refusedWith 7
+        else if b then refusedWith 6
+        else if c then refusedWith 3
+        else if d then record { reply = KeptBefore (outcomeOf block); list = listOf block }
+        else newly e answer (new .list)) .reply
+        ≡ Refused n
+        → (if a then ws
+        else if b then ws
+        else if c then ws
+        else if d then ws
+        else nowHolding e ws (emptySlot ws) (packed request + 1) answer (new .list))
+        ≡ ws
+    go true b c d e answer is = refl
+    go false true c d e answer is = refl
+    go false false true d e answer is = refl
+    go false false false true e answer is = refl
+    go false false false false true (looked.Refused m) is = refl
+    go false false false false false (looked.Refused m) is = refl
+    go false false false false true (looked.Is outcome) is = let z : _≡_ {A = ℕ} 0 1 = cc in absurd (omega arith)
+    go false false false false false (looked.Is outcome) is = refl
+
+pub starts-empty : StartsEmpty
+starts-empty r e slots i small = opened-empty r e slots i small

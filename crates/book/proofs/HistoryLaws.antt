@@ -1,0 +1,390 @@
+-- What holds of a book after any history: each slot that is held, and whose list shares no address with what was edited and not yet
+-- noticed, holds what a new lookup in today's memory gives. Of the lookup this cites `lookedUp` by its name, and its claims.
+--     Sound             the whole of it
+--     open-sound, step-sound, run-sound
+-- Assumes: nothing.
+use Prim.Native.Nat.{ℕ, zero, suc, _+_, _-_, _*_, _^_, _≤_, _<_, min, max}
+use native.Mathlib.Omega.{arith}
+use mathlib.Core.Path.{_≡_, refl, sym, ap, _∙_}
+use mathlib.Core.Bool.{Bool, true, false, not, _&&_, _||_}
+use mathlib.Core.List.{List, [], _∷_}
+use borrow.Author.Tests.{le-leb, lt-ltb, ltb-true, ltb-false, eqb-true, eqb-false, ne-eqb, leb-true}
+use lib.Dec.{eqb, leb, ltb}
+use lib.ListN.{length, getD}
+use Rattle.number_laws.proofs.Tests.{not-both}
+use Rattle.bit_fields.specs.Choice.{if_then_else_}
+use Rattle.ids.specs.Ids.{refusal3}
+use Rattle.ids.specs.Packing.{packed, unpacked}
+use Rattle.ids.specs.declared.Request.{Request}
+use Rattle.ids.specs.declared.Unpacked.the-variants.{Is}
+use Rattle.ids.proofs.PackingLaws.{unpack-pack}
+use Rattle.registers.specs.Sizes.{refusal1}
+use Rattle.registers.specs.declared.Registers.{Registers}
+use Rattle.memory_image.specs.Extent.{Extent, extentOf, refusal2}
+use Rattle.memory_image.specs.Rule.{Agree}
+use Rattle.memory_image.specs.Words.{bytes}
+use Rattle.memory_image.specs.declared.Piece.{Piece}
+use Rattle.answers.specs.Pieces.{nothing, EachPiece}
+use Rattle.answers.specs.declared.Outcome.{Outcome}
+use Rattle.answers.specs.declared.Pieces.{Pieces}
+use Rattle.answers.specs.Proper.{ProperAnswer}
+use Rattle.answer_words.specs.AnswerWords.{wordsOf, outcomeOf, listOf, stands}
+use Rattle.answer_words.proofs.AnswerWordsLaws.{words-length, outcome-back, list-back, stands-proper, stands-count}
+use Rattle.lookup.specs.Lookup.{lookedUp}
+use Rattle.lookup.specs.declared.Looked.{Looked}
+use Rattle.lookup.specs.declared.Answer.{Answer}
+use Rattle.lookup.specs.declared.Answer.the-variants as looked
+use Rattle.lookup.proofs.Claims.{depends-on-list, listed-lies, answers-proper}
+use Rattle.book.specs.Layout.{slotsOf, registersOf, baseOf, lengthOf, keyAt, tab, blockAt, keptAt, openedWith}
+use Rattle.book.specs.Book.{shares, sharedFrom, touched, struckFrom, slotOf, emptySlot, nowHolding, newLookup, askBook, openSays, noticeSays, ifDone}
+use Rattle.book.specs.Malformed.{refusal7}
+use Rattle.book.specs.History.{State, Step, edit, notice, ask, report, edited, noticedAt, stillDirty, step, run, Clean, Began}
+use Rattle.book.specs.declared.Said.{Said}
+use Rattle.book.specs.declared.Said.the-variants as said
+use Rattle.book.proofs.KeptLaws.{kept-length, kept-before, kept-key, kept-key-other, kept-block, kept-block-other}
+use Rattle.book.proofs.StruckLaws.{struck-length, struck-else}
+use Rattle.book.proofs.WellLaws.{held-to, first-low, Well, well-to, well-from}
+use Rattle.book.proofs.KeepsLaws.{registers-same, kept-well, struck-well, struck-left, struck-block, open-well, opened-length, opened-registers, opened-empty}
+
+-- what a slot's block says, as a lookup would
+abbrev pub heldIn : List ℕ → Looked
+heldIn block = record { answer = looked.Is (outcomeOf block); list = listOf block }
+
+pub record Sound (r : Registers) (base : ℕ) (s : State) : Type 0 where
+  pub size : length (s .words) ≡ 1227
+  pub well : Well (s .words)
+  pub registers : registersOf (s .words) ≡ r
+  pub base-is : baseOf (s .words) ≡ base
+  pub length-is : lengthOf (s .words) ≡ length (s .memory)
+  pub fresh :
+      (i : ℕ) → i < 64 → (keyAt (s .words) i ≡ 0 → ⊥) → Clean (s .dirty) (listOf (blockAt (s .words) i))
+      → (request : Request) → unpacked (keyAt (s .words) i - 1) ≡ Is request
+      → lookedUp r base (s .memory) request ≡ heldIn (blockAt (s .words) i)
+
+-- an edit
+tab-length : {A : Type 0} (n : ℕ) (f : ℕ → A) → length (tab n f) ≡ n
+unfolding tab
+tab-length zero f = refl
+tab-length (suc n) f = ap suc (tab-length n (λ k. f (suc k)))
+
+tab-at : (n : ℕ) (f : ℕ → ℕ) (i : ℕ) → i < n → getD (tab n f) i 0 ≡ f i
+unfolding tab
+tab-at zero f i few = absurd (omega arith)
+tab-at (suc n) f zero few = refl
+tab-at (suc n) f (suc i) few = tab-at n (λ k. f (suc k)) i (omega arith)
+
+either-not : (x y : Bool) → x || y ≡ false → (x ≡ false) × (y ≡ false)
+either-not true y is = not-both is
+either-not false y is = (refl, is)
+
+module _ (r : Registers) (base : ℕ) (s : State) (at : ℕ → Bool) (other : List ℕ) where
+  -- the bytes of a piece that lies in the memory and was not edited
+  kept-byte :
+      (a : ℕ) → base ≤ a → a - base < length (s .memory) → at a ≡ false
+      → getD (s .memory) (a - base) 0 ≡ getD (edited base at other (s .memory)) (a - base) 0
+  kept-byte a from few out =
+      let back : base + (a - base) ≡ a = omega arith in
+      sym (tab-at (length (s .memory)) _ (a - base) few ∙ rw (back, out))
+
+  pub edit-sound :
+      Sound r base s → Sound r base (record { memory = edited base at other (s .memory); words = s .words; dirty = λ a. at a || s .dirty a })
+  edit-sound h =
+      record {
+        size = h .size;
+        well = h .well;
+        registers = h .registers;
+        base-is = h .base-is;
+        length-is = h .length-is ∙ sym (tab-length (length (s .memory)) _);
+        fresh = λ i small held clean request is.
+            let was = h .fresh i small held (λ j few a from to. either-not (at a) (s .dirty a) (clean j few a from to) .1) request is in
+            depends-on-list r base (s .memory) (edited base at other (s .memory)) request (tab-length (length (s .memory)) _)
+            (rw was (same request i was clean)) ∙ was;
+      }
+    where
+      same :
+          (request : Request) (i : ℕ) → lookedUp r base (s .memory) request ≡ heldIn (blockAt (s .words) i)
+          → Clean (λ a. at a || s .dirty a) (listOf (blockAt (s .words) i))
+          → EachPiece (Agree (extentOf base (s .memory)) (bytes (s .memory)) (bytes (edited base at other (s .memory)))) (listOf (blockAt (s .words) i))
+      same request i was clean j few a from to =
+          let lies = rw was at (listed-lies r base (s .memory) request) in
+          let begins = lies j few .from in
+          let ends = lies j few .inside in
+          kept-byte a (omega arith) (omega arith) (either-not (at a) (s .dirty a) (clean j few a from to) .0)
+
+-- a notice
+module _ (start size : ℕ) where
+  -- a list that a notice doesn't touch has none of its addresses
+  apart-from :
+      (l : List Piece) (m j₀ j : ℕ) → sharedFrom start size l m j₀ ≡ false → j₀ ≤ j → j < j₀ + m
+      → shares start size (getD l j nothing) ≡ false
+  unfolding sharedFrom
+  apart-from l zero j₀ j is from to = absurd (omega arith)
+  apart-from l (suc m) j₀ j is from to = go (shares start size (getD l j₀ nothing)) refl is (eqb j₀ j) refl (apart-from l m (j₀ + 1) j)
+    where
+      go :
+          (t : Bool) → shares start size (getD l j₀ nothing) ≡ t → (if t then true else sharedFrom start size l m (j₀ + 1)) ≡ false
+          → (u : Bool) → eqb j₀ j ≡ u
+          → (sharedFrom start size l m (j₀ + 1) ≡ false → j₀ + 1 ≤ j → j < j₀ + 1 + m → shares start size (getD l j nothing) ≡ false)
+          → shares start size (getD l j nothing) ≡ false
+      go true a b u c more = not-both b
+      go false a b true c more = rw (← eqb-true j₀ j c) a
+      go false a b false c more = let other : j₀ ≡ j → ⊥ = eqb-false j₀ j c in more b (omega arith) (omega arith)
+
+  -- so an address of such a piece is not noticed
+  apart : (p : Piece) (a : ℕ) → shares start size p ≡ false → p .address ≤ a → a < p .address + p .length → noticedAt start size a ≡ false
+  unfolding shares
+  apart p a is from to = go (leb start a) refl (ltb a (start + size)) refl
+    where
+      away : min (p .address + p .length) (start + size) ≤ max (p .address) start
+      away = ltb-false _ _ is
+
+      go : (t : Bool) → leb start a ≡ t → (u : Bool) → ltb a (start + size) ≡ u → t && u ≡ false
+      go true e true f = absurd (omega (arith, leb-true start a e, ltb-true a (start + size) f, away))
+      go true e false f = refl
+      go false e u f = refl
+
+  untouched :
+      (ws : List ℕ) (i : ℕ) → (keyAt ws i ≡ 0 → ⊥) → touched ws start size i ≡ false
+      → sharedFrom start size (listOf (blockAt ws i) .piece) (min (listOf (blockAt ws i) .count) 4) 0 ≡ false
+  unfolding touched
+  untouched ws i held is = rw (ne-eqb (keyAt ws i) 0 held) at is
+
+  module _ (r : Registers) (base : ℕ) (s : State) where
+    pub struck-sound :
+        Sound r base s
+        → Sound r base
+        (record {
+          memory = s .memory;
+          words = struckFrom (s .words) start size 64 0;
+          dirty = λ a. if noticedAt start size a then false else s .dirty a;
+        })
+    struck-sound h =
+        record {
+          size = struck-length start size 64 (s .words) 0 ∙ h .size;
+          well = struck-well (s .words) start size (h .size) (h .well);
+          registers = registers-same (s .words) _ (λ x few. at x (omega arith)) ∙ h .registers;
+          base-is = at 9 (omega arith) ∙ h .base-is;
+          length-is = at 10 (omega arith) ∙ h .length-is;
+          fresh = λ i small held clean request is. stays i small held clean request is;
+        }
+      where
+        at : (x : ℕ) → x < 11 → getD (struckFrom (s .words) start size 64 0) x 0 ≡ getD (s .words) x 0
+        at x few = struck-else start size 64 (s .words) 0 x (λ j from to is. omega arith)
+
+        same-block : (i : ℕ) → blockAt (struckFrom (s .words) start size 64 0) i ≡ blockAt (s .words) i
+        same-block i = struck-block (s .words) start size (h .size) (h .well) i
+
+        clear : (a : ℕ) → noticedAt start size a ≡ false → (if noticedAt start size a then false else s .dirty a) ≡ false → s .dirty a ≡ false
+        clear a out is = rw out at is
+
+        stays :
+            (i : ℕ) → i < 64 → (keyAt (struckFrom (s .words) start size 64 0) i ≡ 0 → ⊥)
+            → Clean (λ a. if noticedAt start size a then false else s .dirty a) (listOf (blockAt (struckFrom (s .words) start size 64 0) i))
+            → (request : Request) → unpacked (keyAt (struckFrom (s .words) start size 64 0) i - 1) ≡ Is request
+            → lookedUp r base (s .memory) request ≡ heldIn (blockAt (struckFrom (s .words) start size 64 0) i)
+        stays i small held clean request is =
+            let left = struck-left (s .words) start size (h .size) (h .well) i small held in
+            let was-held : keyAt (s .words) i ≡ 0 → ⊥ = λ none. held (left .1 ∙ none) in
+            let few = stands-count (blockAt (s .words) i) (held-to (s .words) i small (h .well .slots i small) was-held .answer) in
+            let none-shared = untouched (s .words) i was-held (left .0) in
+            let clean′ : Clean (λ a. if noticedAt start size a then false else s .dirty a) (listOf (blockAt (s .words) i)) = rw (same-block i) at clean in
+            rw (same-block i)
+            (h .fresh i small was-held
+            (λ j counted a from to.
+            let out = apart-from (listOf (blockAt (s .words) i) .piece) (min (listOf (blockAt (s .words) i) .count) 4) 0 j none-shared (omega arith) (omega arith) in
+            clear a (apart (getD (listOf (blockAt (s .words) i) .piece) j nothing) a out from to) (clean′ j counted a from to))
+            request (ap (λ (k : ℕ). unpacked (k - 1)) (sym (left .1)) ∙ is))
+
+-- an ask that is kept
+module _ (r : Registers) (base : ℕ) (s : State) (h : Sound r base s) (request : Request) (j : ℕ) (room : j < slotsOf (s .words))
+    (new : (i : ℕ) → i < 64 → keyAt (s .words) i ≡ packed request + 1 → ⊥)
+    (is-request : unpacked (packed request) ≡ Is request) {outcome : Outcome} {l : Pieces}
+    (said : lookedUp r base (s .memory) request ≡ record { answer = looked.Is outcome; list = l }) where
+  small-slot : j < 64
+  small-slot = omega (arith, h .well .few)
+
+  block : List ℕ
+  block = wordsOf outcome l
+
+  back : unpacked (packed request + 1 - 1) ≡ Is request
+  back = let same : packed request + 1 - 1 ≡ packed request = omega arith in rw same is-request
+
+  kept-said : heldIn (wordsOf outcome l) ≡ record { answer = looked.Is outcome; list = l }
+  kept-said =
+      let proper = answers-proper r base (s .memory) request outcome l said in
+      rw (outcome-back outcome l, list-back outcome l (proper .array-full))
+
+  pub kept-sound :
+      Sound r base (record { memory = s .memory; words = keptAt (s .words) j (packed request + 1) (wordsOf outcome l); dirty = s .dirty })
+  kept-sound =
+      record {
+        size = kept-length (s .words) j (packed request + 1) (wordsOf outcome l) (h .size) small-slot;
+        well =
+            kept-well (s .words) j (packed request + 1) (wordsOf outcome l) (h .size) (h .well) room new back (words-length outcome l)
+            (stands-proper outcome l (proper .array-full) (proper .outcome-proper) (proper .list-proper));
+        registers = registers-same (s .words) _ (λ x few. at x (omega arith)) ∙ h .registers;
+        base-is = at 9 (omega arith) ∙ h .base-is;
+        length-is = at 10 (omega arith) ∙ h .length-is;
+        fresh = λ i small held clean q is. slot i small held clean q is (eqb i j) refl;
+      }
+    where
+      proper : ProperAnswer outcome l
+      proper = answers-proper r base (s .memory) request outcome l said
+
+      after : List ℕ
+      after = keptAt (s .words) j (packed request + 1) (wordsOf outcome l)
+
+      at : (x : ℕ) → x < 11 → getD after x 0 ≡ getD (s .words) x 0
+      at x few = kept-before (s .words) j (packed request + 1) (wordsOf outcome l) (h .size) small-slot x (omega arith) (λ e. omega arith)
+
+      slot :
+          (i : ℕ) → i < 64 → (keyAt after i ≡ 0 → ⊥) → Clean (s .dirty) (listOf (blockAt after i)) → (q : Request)
+          → unpacked (keyAt after i - 1) ≡ Is q → (t : Bool) → eqb i j ≡ t → lookedUp r base (s .memory) q ≡ heldIn (blockAt after i)
+      slot i small held clean q is true e =
+          let here : i ≡ j = eqb-true i j e in
+          let key : keyAt after i ≡ packed request + 1 =
+          rw here (kept-key (s .words) j (packed request + 1) (wordsOf outcome l) (h .size) small-slot) in
+          let kept : blockAt after i ≡ wordsOf outcome l =
+          rw here (kept-block (s .words) j (packed request + 1) (wordsOf outcome l) (h .size) small-slot (words-length outcome l)) in
+          let both : Is request ≡ Is q = sym back ∙ ap (λ (k : ℕ). unpacked (k - 1)) (sym key) ∙ is in
+          let same : request ≡ q = cc in
+          rw (← same, kept) (said ∙ sym kept-said)
+      slot i small held clean q is false e =
+          let other : i ≡ j → ⊥ = eqb-false i j e in
+          let key : keyAt after i ≡ keyAt (s .words) i =
+          kept-key-other (s .words) j (packed request + 1) (wordsOf outcome l) (h .size) small-slot i small other in
+          let same : blockAt after i ≡ blockAt (s .words) i =
+          kept-block-other (s .words) j (packed request + 1) (wordsOf outcome l) (h .size) small-slot i other in
+          let clean′ : Clean (s .dirty) (listOf (blockAt (s .words) i)) = rw same at clean in
+          rw same (h .fresh i small (λ none. held (key ∙ none)) clean′ q (ap (λ (k : ℕ). unpacked (k - 1)) (sym key) ∙ is))
+
+-- any ask
+module _ (r : Registers) (base : ℕ) (s : State) (h : Sound r base s) (request : Request) (narrow : request .stream .number < 2 ^ 32) where
+  ws : List ℕ
+  ws = s .words
+
+  -- no slot has the request's key where the search finds none
+  unheld : slotsOf (s .words) ≤ slotOf (s .words) request → (i : ℕ) → i < 64 → keyAt (s .words) i ≡ packed request + 1 → ⊥
+  unheld past i small is =
+      let held : keyAt (s .words) i ≡ 0 → ⊥ = λ none. omega arith in
+      let inside = held-to (s .words) i small (h .well .slots i small) held .inside in
+      let low = first-low (slotsOf (s .words)) (s .words) (packed request + 1) 0 i is (omega arith) (omega arith) in
+      omega arith
+
+  -- what a new lookup leaves
+  anew :
+      slotsOf (s .words) ≤ slotOf (s .words) request → refusal3 request ≡ false → (room : Bool)
+      → ltb (emptySlot (s .words)) (slotsOf (s .words)) ≡ room → (answer : Answer) (l : Pieces)
+      → lookedUp r base (s .memory) request ≡ record { answer = answer; list = l }
+      → Sound r base
+      (record {
+        memory = s .memory;
+        words = nowHolding room (s .words) (emptySlot (s .words)) (packed request + 1) answer l;
+        dirty = s .dirty;
+      })
+  anew past third true e (looked.Refused n) l said = h
+  anew past third false e (looked.Refused n) l said = h
+  anew past third true e (looked.Is outcome) l said =
+      kept-sound r base s h request (emptySlot (s .words)) (ltb-true _ _ e) (unheld past)
+      (unpack-pack request (record { stream = narrow; substream = third })) said
+  anew past third false e (looked.Is outcome) l said = h
+
+  pub ask-sound :
+      (from : ℕ)
+      → Sound r base
+      (record {
+        memory = s .memory;
+        words = askBook (s .words) from (length (s .memory)) request (newLookup (s .words) from (s .memory) request);
+        dirty = s .dirty;
+      })
+  unfolding askBook
+  ask-sound from =
+      go (refusal7 (s .words)) (eqb from (baseOf (s .words))) refl (eqb (length (s .memory)) (lengthOf (s .words))) (refusal3 request) refl
+      (ltb (slotOf (s .words) request) (slotsOf (s .words))) refl
+    where
+      new : Looked
+      new = newLookup (s .words) from (s .memory) request
+
+      go :
+          (a b : Bool) → eqb from (baseOf (s .words)) ≡ b → (c d : Bool) → refusal3 request ≡ d → (e : Bool)
+          → ltb (slotOf (s .words) request) (slotsOf (s .words)) ≡ e
+          → Sound r base
+          (record {
+            memory = s .memory;
+            words =
+                if a then s .words
+                else if not (b && c) then s .words
+                else if d then s .words
+                else if e then s .words
+                else nowHolding (ltb (emptySlot (s .words)) (slotsOf (s .words))) (s .words) (emptySlot (s .words)) (packed request + 1)
+                (new .answer) (new .list);
+            dirty = s .dirty;
+          })
+      go true b b′ c d d′ e e′ = h
+      go false false b′ c d d′ e e′ = h
+      go false true b′ false d d′ e e′ = h
+      go false true b′ true true d′ e e′ = h
+      go false true b′ true false d′ true e′ = h
+      go false true b′ true false d′ false e′ =
+          let here : from ≡ base = eqb-true from (baseOf (s .words)) b′ ∙ h .base-is in
+          anew (ltb-false _ _ e′) d′ (ltb (emptySlot (s .words)) (slotsOf (s .words))) refl (new .answer) (new .list)
+          (rw (← h .registers, ← here))
+
+-- any step, and any history
+notice-sound : (r : Registers) (base : ℕ) (s : State) (start size : ℕ) → Sound r base s → Sound r base (step base s (notice start size))
+notice-sound r base s start size h = go (noticeSays (s .words) start size)
+  where
+    go :
+        (says : Said)
+        → Sound r base
+        (record {
+          memory = s .memory;
+          words = ifDone says (s .words) (struckFrom (s .words) start size 64 0);
+          dirty = stillDirty says start size (s .dirty);
+        })
+    go (said.Refused n) = h
+    go said.Done = struck-sound start size r base s h
+
+step-sound : (r : Registers) (base : ℕ) (s : State) (t : Step) → Sound r base s → Sound r base (step base s t)
+step-sound r base s (edit at other) h = edit-sound r base s at other h
+step-sound r base s (notice start size) h = notice-sound r base s start size h
+step-sound r base s (ask from request narrow) h = ask-sound r base s h request narrow from
+step-sound r base s report h = h
+
+pub run-sound : (r : Registers) (base : ℕ) (ts : List Step) (s : State) → Sound r base s → Sound r base (run base s ts)
+run-sound r base [] s h = h
+run-sound r base (t ∷ ts) s h = run-sound r base ts (step base s t) (step-sound r base s t h)
+
+-- an accepted opening has passed its refusals
+accepted-parts :
+    (r : Registers) (e : Extent) (slots : ℕ) → openSays r e slots ≡ said.Done
+    → (refusal1 r ≡ false) × (refusal2 e ≡ false) × (slots ≡ 0 → ⊥) × (slots ≤ 64)
+unfolding openSays
+accepted-parts r e slots is = go (refusal1 r) refl (refusal2 e) refl (eqb slots 0) refl (ltb 64 slots) refl is
+  where
+    refused : {A : Type 0} {n : ℕ} → said.Refused n ≡ said.Done → A
+    refused e = let z : _≡_ {A = ℕ} 0 1 = cc in absurd (omega arith)
+
+    go :
+        (a : Bool) → refusal1 r ≡ a → (b : Bool) → refusal2 e ≡ b → (c : Bool) → eqb slots 0 ≡ c → (d : Bool) → ltb 64 slots ≡ d
+        → (if a then said.Refused 1 else if b then said.Refused 2 else if c || d then said.Refused 4 else said.Done) ≡ said.Done
+        → (refusal1 r ≡ false) × (refusal2 e ≡ false) × (slots ≡ 0 → ⊥) × (slots ≤ 64)
+    go true a b b′ c c′ d d′ is = refused is
+    go false a true b′ c c′ d d′ is = refused is
+    go false a false b′ true c′ d d′ is = refused is
+    go false a false b′ false c′ true d′ is = refused is
+    go false a false b′ false c′ false d′ is = (a, b′, eqb-false slots 0 c′, ltb-false 64 slots d′)
+
+pub open-sound : (r : Registers) (base : ℕ) (s : State) → Began r base s → Sound r base s
+unfolding openedWith
+open-sound r base s began =
+    let e = extentOf base (s .memory) in
+    let parts = accepted-parts r e (began .slots) (began .accepted) in
+    record {
+      size = rw (began .opened) (opened-length r e (began .slots));
+      well = rw (began .opened) (open-well r e (began .slots) (began .narrow) (parts .0) (parts .1) (parts .2) (parts .3));
+      registers = rw (began .opened) (opened-registers r e (began .slots) (began .narrow));
+      base-is = rw (began .opened);
+      length-is = rw (began .opened);
+      fresh = λ i small held clean request is. absurd (held (rw (began .opened) (opened-empty r e (began .slots) i small)));
+    }

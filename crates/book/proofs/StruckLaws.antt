@@ -1,0 +1,93 @@
+-- What a notice does to each word of a book.
+--     struck-length, struck-else     nothing but keys changes
+--     struck-key                     a key is struck exactly where the slot is touched
+-- Assumes: nothing.
+use Prim.Native.Nat.{ℕ, zero, suc, _+_, _*_, _≤_, _<_}
+use native.Mathlib.Omega.{arith}
+use mathlib.Core.Path.{_≡_, refl, sym, ap, _∙_}
+use mathlib.Core.Bool.{Bool, true, false}
+use mathlib.Core.List.{List}
+use borrow.Author.Tests.{eqb-true, eqb-false}
+use lib.Dec.{eqb}
+use lib.ListN.{length, getD, set, length-set}
+use lib.Seq.{getD-set-same, getD-set-other}
+use Rattle.bit_fields.specs.Choice.{if_then_else_}
+use Rattle.book.specs.Layout.{keyAt, blockAt}
+use Rattle.book.specs.Book.{touched, strike, struckFrom}
+use Rattle.book.proofs.KeptLaws.{block-same}
+
+module _ (start size : ℕ) where
+  strike-length : (ws : List ℕ) (i : ℕ) → length (strike ws start size i) ≡ length ws
+  unfolding strike
+  strike-length ws i = go (touched ws start size i)
+    where
+      go : (t : Bool) → length (if t then set ws (11 + i) 0 else ws) ≡ length ws
+      go true = length-set ws (11 + i) 0
+      go false = refl
+
+  strike-else : (ws : List ℕ) (i x : ℕ) → (x ≡ 11 + i → ⊥) → getD (strike ws start size i) x 0 ≡ getD ws x 0
+  unfolding strike
+  strike-else ws i x other = go (touched ws start size i)
+    where
+      go : (t : Bool) → getD (if t then set ws (11 + i) 0 else ws) x 0 ≡ getD ws x 0
+      go true = getD-set-other ws (11 + i) x 0 0 other
+      go false = refl
+
+  strike-block : (ws : List ℕ) (i j : ℕ) → i < 64 → blockAt (strike ws start size i) j ≡ blockAt ws j
+  strike-block ws i j small = block-same ws (strike ws start size i) j (λ x from to. strike-else ws i x (λ e. omega arith))
+
+  -- whether another slot is touched stays as it was
+  touched-same :
+      (ws ws′ : List ℕ) (i : ℕ) → keyAt ws′ i ≡ keyAt ws i → blockAt ws′ i ≡ blockAt ws i
+      → touched ws′ start size i ≡ touched ws start size i
+  unfolding touched
+  touched-same ws ws′ i key block = rw (key, block)
+
+  strike-at : (ws : List ℕ) (i : ℕ) → 11 + i < length ws → keyAt (strike ws start size i) i ≡ (if touched ws start size i then 0 else keyAt ws i)
+  unfolding strike
+  strike-at ws i room = go (touched ws start size i)
+    where
+      go : (t : Bool) → getD (if t then set ws (11 + i) 0 else ws) (11 + i) 0 ≡ (if t then 0 else keyAt ws i)
+      go true = getD-set-same ws (11 + i) 0 0 room
+      go false = refl
+
+  pub struck-length : (m : ℕ) (ws : List ℕ) (i : ℕ) → length (struckFrom ws start size m i) ≡ length ws
+  unfolding struckFrom
+  struck-length zero ws i = refl
+  struck-length (suc m) ws i = struck-length m (strike ws start size i) (i + 1) ∙ strike-length ws i
+
+  -- a word that is no key of the slots looked at
+  pub struck-else :
+      (m : ℕ) (ws : List ℕ) (i x : ℕ) → ((j : ℕ) → i ≤ j → j < i + m → x ≡ 11 + j → ⊥)
+      → getD (struckFrom ws start size m i) x 0 ≡ getD ws x 0
+  unfolding struckFrom
+  struck-else zero ws i x other = refl
+  struck-else (suc m) ws i x other =
+      struck-else m (strike ws start size i) (i + 1) x (λ j from to. other j (omega arith) (omega arith))
+      ∙ strike-else ws i x (other i (omega arith) (omega arith))
+
+  pub struck-key :
+      (m : ℕ) (ws : List ℕ) (i j : ℕ) → length ws ≡ 1227 → i + m ≤ 64 → i ≤ j → j < i + m
+      → keyAt (struckFrom ws start size m i) j ≡ (if touched ws start size j then 0 else keyAt ws j)
+  unfolding struckFrom
+  struck-key zero ws i j full room from to = absurd (omega arith)
+  struck-key (suc m) ws i j full room from to =
+      go (eqb i j) refl (struck-key m (strike ws start size i) (i + 1) j (strike-length ws i ∙ full) (omega arith))
+    where
+      next : List ℕ
+      next = strike ws start size i
+
+      go :
+          (t : Bool) → eqb i j ≡ t
+          → (i + 1 ≤ j → j < i + 1 + m
+          → keyAt (struckFrom next start size m (i + 1)) j ≡ (if touched next start size j then 0 else keyAt next j))
+          → keyAt (struckFrom next start size m (i + 1)) j ≡ (if touched ws start size j then 0 else keyAt ws j)
+      go true e more =
+          let same : i ≡ j = eqb-true i j e in
+          rw (← same)
+          (struck-else m next (i + 1) (11 + i) (λ k low high is. omega arith) ∙ strike-at ws i (omega arith))
+      go false e more =
+          let other : i ≡ j → ⊥ = eqb-false i j e in
+          let key : keyAt next j ≡ keyAt ws j = strike-else ws i (11 + j) (λ is. other (omega arith)) in
+          let touch : touched next start size j ≡ touched ws start size j = touched-same ws next j key (strike-block ws i j (omega arith)) in
+          more (omega arith) (omega arith) ∙ rw (touch, key)
