@@ -1,0 +1,118 @@
+-- The claims of specs/Claims.antt, each under its own name. The table is computed.
+-- Assumes: nothing.
+use Prim.Native.Nat.{ℕ, zero, suc, _+_, _^_, _<_}
+use native.Mathlib.Omega.{arith}
+use mathlib.Core.Path.{_≡_, refl, sym, ap, _∙_, fun-ext}
+use mathlib.Core.Bool.{Bool, true, false}
+use mathlib.Core.List.{List, [], _∷_}
+use lib.Dec.{leb·zero, leb·suc-zero, leb·suc-suc}
+use lib.ListN.{length, getD}
+use Rattle.ids.specs.Ids.{refusal3}
+use Rattle.ids.specs.declared.Request.{Request}
+use Rattle.registers.specs.Sizes.{refusal1, sizeOf, oasSize}
+use Rattle.registers.specs.declared.Registers.{Registers}
+use Rattle.memory_image.specs.Extent.{extentOf, refusal2, fetched}
+use Rattle.memory_image.specs.Rule.{run, andThen}
+use Rattle.memory_image.specs.Words.{bytes, word}
+use Rattle.stream_table.specs.StreamTable.{streamRule, linear, splitOf, l1stdAt, holds, leafRule, twoLevelRule}
+use Rattle.stream_entry.specs.StreamEntry.{steRule, notThere, stage1Rule, badStage1, withId}
+use Rattle.context_table.specs.ContextTable.{contextRule, leafBits, twoLevelRule as cdTwoLevelRule, l1cdRule}
+use Rattle.context_entry.specs.ContextEntry.{cdRule, effectiveIps}
+use Rattle.lookup.specs.Lookup.{lookupRule, fromSte, fromEntry, fromCd, ruled, answered, lookedUp}
+use Rattle.lookup.proofs.Claims.{refused-exactly}
+use Rattle.book.specs.Layout.{tab}
+use Rattle.book.specs.Book.{shares}
+use Rattle.shots.specs.Shots.{Shot, shots, byteOf, whole, clip, given, expected}
+use Rattle.shots.specs.Claims.{EachShot, Right, AllShots, RealShots, SharedSte}
+
+pub all-shots : AllShots
+unfolding run fetched word lookupRule andThen fromSte fromEntry fromCd streamRule linear splitOf l1stdAt holds leafRule twoLevelRule steRule notThere stage1Rule badStage1 withId contextRule leafBits cdTwoLevelRule l1cdRule cdRule effectiveIps sizeOf oasSize refusal1 refusal3
+all-shots = (
+  record { says = refl; registers-taken = refl; request-taken = refl },
+  (
+    record { says = refl; registers-taken = refl; request-taken = refl },
+    (
+      record { says = refl; registers-taken = refl; request-taken = refl },
+      (
+        record { says = refl; registers-taken = refl; request-taken = refl },
+        (
+          record { says = refl; registers-taken = refl; request-taken = refl },
+          (
+            record { says = refl; registers-taken = refl; request-taken = refl },
+            (
+              record { says = refl; registers-taken = refl; request-taken = refl },
+              (
+                record { says = refl; registers-taken = refl; request-taken = refl },
+                (
+                  record { says = refl; registers-taken = refl; request-taken = refl },
+                  (
+                    record { says = refl; registers-taken = refl; request-taken = refl },
+                    (
+                      record { says = refl; registers-taken = refl; request-taken = refl },
+                      (
+                        record { says = refl; registers-taken = refl; request-taken = refl },
+                        (
+                          record { says = refl; registers-taken = refl; request-taken = refl },
+                          (
+                            record { says = refl; registers-taken = refl; request-taken = refl },
+                            tt,
+                          ),
+                        ),
+                      ),
+                    ),
+                  ),
+                ),
+              ),
+            ),
+          ),
+        ),
+      ),
+    ),
+  ),
+)
+
+-- a real memory from a function: its bytes are the function's, up to its end
+tab-length : (n : ℕ) (f : ℕ → ℕ) → length (tab n f) ≡ n
+unfolding tab
+tab-length zero f = refl
+tab-length (suc n) f = ap suc (tab-length n (λ k. f (suc k)))
+
+tab-at : (n : ℕ) (f : ℕ → ℕ) (i : ℕ) → getD (tab n f) i 0 ≡ clip n f i
+unfolding tab
+tab-at zero f i = rw (leb·suc-zero i)
+tab-at (suc n) f zero = rw (leb·suc-suc zero n, leb·zero n)
+tab-at (suc n) f (suc i) = tab-at n (λ k. f (suc k)) i ∙ rw (leb·suc-suc (suc i) n)
+
+bytes-are : (n : ℕ) (f : ℕ → ℕ) → bytes (tab n f) ≡ clip n f
+bytes-are n f = fun-ext (tab-at n f)
+
+extent-taken : (memory : List ℕ) → length memory ≡ 0x10000 → refusal2 (extentOf 0 memory) ≡ false
+unfolding refusal2
+extent-taken memory is = rw is
+
+real-run :
+    (r : Registers) (memory : List ℕ) (f : ℕ → ℕ) (request : Request) → length memory ≡ 0x10000 → bytes memory ≡ f
+    → ruled r 0 memory request ≡ run whole (2 ^ oasSize r) f (lookupRule r request)
+unfolding ruled
+real-run r memory f request size same = rw (size, same)
+
+real :
+    (s : Shot) → Right s → lookedUp (s .registers) 0 (tab 0x10000 (byteOf (s .memory))) (s .request) ≡ answered (expected s)
+real s right =
+    let memory = tab 0x10000 (byteOf (s .memory)) in
+    let size = tab-length 0x10000 (byteOf (s .memory)) in
+    refused-exactly (s .registers) 0 memory (s .request) .answer (right .registers-taken) (extent-taken memory size) (right .request-taken)
+    ∙ ap answered (real-run (s .registers) memory _ (s .request) size (bytes-are 0x10000 (byteOf (s .memory))) ∙ right .says)
+
+each-real :
+    (ss : List Shot) → EachShot Right ss
+    → EachShot (λ s. lookedUp (s .registers) 0 (tab 0x10000 (byteOf (s .memory))) (s .request) ≡ answered (expected s)) ss
+each-real [] all = tt
+each-real (s ∷ ss) all = (real s (all .0), each-real ss (all .1))
+
+pub real-shots : RealShots
+real-shots = each-real shots all-shots
+
+pub shared-ste : SharedSte
+unfolding shares
+shared-ste = (refl, refl, refl)

@@ -1,0 +1,2 @@
+-- The claims of specs/Claims.antt.
+pub mod Claims

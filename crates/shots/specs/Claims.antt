@@ -1,0 +1,33 @@
+-- What is claimed of the shots.
+--     AllShots      the rules give each shot of the table what 01 says; none is refused
+--     RealShots     and so does a lookup in a real memory of 65,536 bytes
+--     SharedSte     P10: a notice of one byte at 0x2F00 shares an address with the lists of 188 and of 256
+-- Assumes: nothing.
+use Prim.Native.Nat.{ℕ, zero, suc, _+_}
+use mathlib.Core.Path.{_≡_}
+use mathlib.Core.Bool.{true, false}
+use mathlib.Core.List.{List, [], _∷_}
+use Rattle.ids.specs.Ids.{refusal3}
+use Rattle.registers.specs.Sizes.{refusal1}
+use Rattle.lookup.specs.Lookup.{answered, lookedUp}
+use Rattle.book.specs.Layout.{tab}
+use Rattle.book.specs.Book.{shares}
+use Rattle.shots.specs.Shots.{Shot, shots, piece, byteOf, given, expected}
+
+abbrev pub EachShot : (Shot → Type 0) → List Shot → Type 0
+EachShot P [] = Unit {0}
+EachShot P (s ∷ ss) = P s × EachShot P ss
+
+pub record Right (s : Shot) : Type 0 where
+  pub says : given s ≡ expected s
+  pub registers-taken : refusal1 (s .registers) ≡ false
+  pub request-taken : refusal3 (s .request) ≡ false
+
+abbrev pub AllShots : Type 0
+AllShots = EachShot Right shots
+
+abbrev pub RealShots : Type 0
+RealShots = EachShot (λ s. lookedUp (s .registers) 0 (tab 0x10000 (byteOf (s .memory))) (s .request) ≡ answered (expected s)) shots
+
+abbrev pub SharedSte : Type 0
+SharedSte = (shares 0x2f00 1 (piece 0x2f00 64) ≡ true) × (shares 0x2eff 1 (piece 0x2f00 64) ≡ false) × (shares 0x2f40 1 (piece 0x2f00 64) ≡ false)

@@ -1,0 +1,3 @@
+-- The shots, and what is claimed of them.
+pub mod Shots
+pub mod Claims
