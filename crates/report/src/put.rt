@@ -47,10 +47,9 @@ fn put_cell(out: &mut [u8], at: usize, cell: Cell, ending: u8) -> usize
     requires { ⌜ (cell .count ≤ 10) × (at + cell .count + 1 ≤ length (now out)) ⌝ }
     ensures { λ r. ⌜ Put (from (cell .byte) (cell .count) 0 ++ (ending ∷ [])) (now (out .entry)) at r (now (out .exit)) ⌝ }
 {
-    let byte = cell.byte;
     let mut j: usize = 0;
     while j < cell.count {
-        out[at + j] = byte[j];
+        out[at + j] = cell.byte[j];
         j += 1;
     }
     out[at + j] = ending;

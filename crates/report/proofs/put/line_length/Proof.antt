@@ -1,51 +1,47 @@
+-- Proof of `report::put::line_length`.
+-- Assumes: nothing.
+use borrow.Author.Needs.{needs}
+use native.Mathlib.Omega.{arith}
+use Prim.Native.Nat.{_+_, _*_, _-_, _≤_}
+use mathlib.Core.Path.{_≡_}
+use lib.ListN.{length}
+use Rattle.report_cells.specs.Cells.{cellsFrom, lineText}
+use Rattle.report.proofs.ScanLaws.{cells-done, cells-summed, few-more, columns-few, line-counted}
 use Rattle.report.proofs.put.line_length.Statement.{statement}
 use Rattle.report.proofs.put.line_length.Tie as tie
-use Rattle.report.proofs.put.line_length.Reads as reads
-use Rattle.report.proofs.put.line_length.Lts as lts
-use Rattle.report_cells.proofs.cell_of.Reads as cell-of-reads
-use Rattle.report_cells.proofs.columns.Reads as columns-reads
 
 abbrev Inv-loop : tie.InvT-loop
-Inv-loop line n sum₀ column₀ sum column = ?
+Inv-loop line n sum₀ column₀ sum column = (column ≤ n) × (n ≤ 5) × (sum + length (cellsFrom line (n - column) column) ≡ length (lineText line)) × (sum ≤ 11 * column)
 
 abbrev μ-loop : tie.MeasureT-loop
-μ-loop line n sum₀ column₀ sum column = ?
+μ-loop line n sum₀ column₀ sum column = n - column
 
--- src/put.rt:17:9
 columns-requires : tie.Need-columns-requires Inv-loop μ-loop
-columns-requires c κs = ?
+columns-requires c κs = search needs
 
--- src/put.rt:20:5
 loop-holds : tie.Need-loop-holds Inv-loop μ-loop
-loop-holds c = ?
+loop-holds c = (omega arith, search (needs, columns-few), search (needs, line-counted), omega arith)
 
--- src/put.rt:21:13
 cell-of-requires : tie.Need-cell-of-requires Inv-loop μ-loop
-cell-of-requires c κs = ?
+cell-of-requires c κs = search needs
 
--- src/put.rt:22:15
 add-sum : tie.Need-add-sum Inv-loop μ-loop
-add-sum c = ?
+add-sum c = omega arith
 
--- src/put.rt:22:15
 add-sum-2 : tie.Need-add-sum-2 Inv-loop μ-loop
-add-sum-2 c = ?
+add-sum-2 c = omega arith
 
--- src/put.rt:23:9
 add-column : tie.Need-add-column Inv-loop μ-loop
-add-column c = ?
+add-column c = omega arith
 
--- src/put.rt:20:5
 loop-less : tie.Need-loop-less Inv-loop μ-loop
-loop-less c = ?
+loop-less c = omega arith
 
--- src/put.rt:20:5
 loop-again : tie.Need-loop-again Inv-loop μ-loop
-loop-again c = ?
+loop-again c = (omega arith, omega arith, cells-summed _ _ _ _ (c .before .before .before .loop .inv .2) (omega arith) (c .before .cell-of .ensures), few-more _ _ (c .before .cell-of .ensures) (c .before .before .before .loop .inv .3))
 
--- src/put.rt:14:1
 returns : tie.Need-returns Inv-loop μ-loop
-returns c = ?
+returns c = (cells-done _ _ _ _ (c .before .loop .inv .2) (omega arith), omega arith)
 
 pub line-length-spec : {M : Type 1} → statement M
 line-length-spec =

@@ -1,65 +1,59 @@
+-- Proof of `report::put::put_cell`.
+-- Assumes: nothing.
+use borrow.Author.Needs.{needs}
+use native.Mathlib.Omega.{arith}
+use Prim.Native.Nat.{_+_, _-_, _≤_}
+use mathlib.Core.List.{[], _∷_, _++_}
+use Rattle.placed.specs.Placed.{Left}
+use Rattle.report_cells.specs.Text.{from}
+use Rattle.report.proofs.PutLaws.{cell-starts, byte-put, cell-put, cell-long}
 use Rattle.report.proofs.put.put_cell.Statement.{statement}
 use Rattle.report.proofs.put.put_cell.Tie as tie
-use Rattle.report.proofs.put.put_cell.Reads as reads
-use Rattle.report.proofs.put.put_cell.Lts as lts
 
 abbrev Inv-loop : tie.InvT-loop
-Inv-loop out₀ at cell ending byte j₀ out j = ?
+Inv-loop out₀ at ending cell j₀ out j = (j ≤ cell .count) × (cell .count ≤ 10) × Left out₀ at (from (cell .byte) (cell .count) 0 ++ (ending ∷ [])) out (at + j) (from (cell .byte) (cell .count - j) j ++ (ending ∷ []))
 
 abbrev μ-loop : tie.MeasureT-loop
-μ-loop out₀ at cell ending byte j₀ out j = ?
+μ-loop out₀ at ending cell j₀ out j = cell .count - j
 
--- src/put.rt:52:5
 loop-holds : tie.Need-loop-holds Inv-loop μ-loop
-loop-holds c = ?
+loop-holds c = (omega arith, omega arith, cell-starts _ _ _ _ _ (omega arith))
 
--- src/put.rt:53:23
-array-read-out : tie.Need-array-read-out Inv-loop μ-loop
-array-read-out c = ?
+element-copy-out-out : tie.Need-element-copy-out-out Inv-loop μ-loop
+element-copy-out-out c = search needs
 
--- src/put.rt:53:13
 add-out : tie.Need-add-out Inv-loop μ-loop
-add-out c = ?
+add-out c = omega arith
 
--- src/put.rt:53:9
 slice-write-out : tie.Need-slice-write-out Inv-loop μ-loop
-slice-write-out c = ?
+slice-write-out c = search needs
 
--- src/put.rt:54:9
 add-j : tie.Need-add-j Inv-loop μ-loop
-add-j c = ?
+add-j c = omega arith
 
--- src/put.rt:52:5
 loop-less : tie.Need-loop-less Inv-loop μ-loop
-loop-less c = ?
+loop-less c = omega arith
 
--- src/put.rt:52:5
 loop-again : tie.Need-loop-again Inv-loop μ-loop
-loop-again c = ?
+loop-again c = (omega arith, omega arith, search (needs, byte-put))
 
--- src/put.rt:56:9
 add-out-2 : tie.Need-add-out-2 Inv-loop μ-loop
-add-out-2 c = ?
+add-out-2 c = omega arith
 
--- src/put.rt:56:5
 slice-write-out-2 : tie.Need-slice-write-out-2 Inv-loop μ-loop
-slice-write-out-2 c = ?
+slice-write-out-2 c = search needs
 
--- src/put.rt:57:5
 add-result : tie.Need-add-result Inv-loop μ-loop
-add-result c = ?
+add-result c = omega arith
 
--- src/put.rt:57:5
 add-result-2 : tie.Need-add-result-2 Inv-loop μ-loop
-add-result-2 c = ?
+add-result-2 c = omega arith
 
--- src/put.rt:46:1
 same-length : tie.Need-same-length Inv-loop μ-loop
-same-length c = ?
+same-length c = search (needs, cell-long)
 
--- src/put.rt:46:1
 returns : tie.Need-returns Inv-loop μ-loop
-returns c = ?
+returns c = search (needs, cell-put)
 
 pub put-cell-spec : {M : Type 1} → statement M
 put-cell-spec =
@@ -68,7 +62,7 @@ put-cell-spec =
     Inv-loop
     μ-loop
     loop-holds
-    array-read-out
+    element-copy-out-out
     add-out
     slice-write-out
     add-j
