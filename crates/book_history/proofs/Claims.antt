@@ -25,7 +25,7 @@ use Rattle.lookup.specs.declared.Looked.{Looked}
 use Rattle.lookup.specs.declared.Answer.{Answer}
 use Rattle.lookup.specs.declared.Answer.the-variants as looked
 use Rattle.lookup.proofs.Claims.{refused-exactly}
-use Rattle.book_history.specs.Claims.{NeverStale, StillGood, NeverMalformed, StrikesExactly, Shared, SharesMeans, LowestEmpty, KeptChangesNothing, FullChangesNothing, RefusedChangesNothing, StartsEmpty, lookedIn, askedAfter}
+use Rattle.book_history.specs.Claims.{NeverStale, FreshIn, StillGood, NeverMalformed, StrikesExactly, Shared, SharesMeans, LowestEmpty, KeptChangesNothing, FullChangesNothing, RefusedChangesNothing, StartsEmpty, OneOpening, OneAsk, OneNotice, lookedIn, askedAfter}
 use Rattle.book.specs.Layout.{slotsOf, registersOf, baseOf, lengthOf, keyAt, blockAt}
 use Rattle.book.specs.Malformed.{firstFrom, refusal7}
 use Rattle.book.specs.Book.{slotOf, emptySlot, newly, nowHolding, otherExtent, refusedWith, askResult, askBook, newLookup, shares, touched, struckFrom}
@@ -48,8 +48,8 @@ pub never-malformed : NeverMalformed
 never-malformed r base s began ts = well-from _ (after r base s began ts .well)
 
 -- an ask of a book that is sound, where nothing is dirty
-module _ (r : Registers) (base : ℕ) (s : State) (h : Sound r base s) (clean : (a : ℕ) → s .dirty a ≡ false) (request : Request)
-    (narrow : request .stream .number < 2 ^ 32) (third : refusal3 request ≡ false) where
+module _ (r : Registers) (base : ℕ) (s : State) (h : Sound r base s) (fresh : FreshIn r base s) (clean : (a : ℕ) → s .dirty a ≡ false)
+    (request : Request) (narrow : request .stream .number < 2 ^ 32) (third : refusal3 request ≡ false) where
   new-is : newLookup (s .words) base (s .memory) request ≡ lookedUp r base (s .memory) request
   new-is = rw (h .registers)
 
@@ -78,7 +78,7 @@ module _ (r : Registers) (base : ℕ) (s : State) (h : Sound r base s) (clean : 
       let back : packed request + 1 - 1 ≡ packed request = omega arith in
       let is : unpacked (keyAt (s .words) i - 1) ≡ Is request =
       rw (key, back) (unpack-pack request (record { stream = narrow; substream = third })) in
-      sym (h .fresh i (omega arith) (λ none. omega arith) (λ j counted a from to. clean a) request is)
+      sym (fresh i (omega arith) (λ none. omega arith) (λ j counted a from to. clean a) request is)
 
   pub asked-fresh : lookedIn (askedAfter base s request) ≡ lookedUp r base (s .memory) request
   unfolding askResult
@@ -104,7 +104,7 @@ module _ (r : Registers) (base : ℕ) (s : State) (h : Sound r base s) (clean : 
 
 pub never-stale : NeverStale
 never-stale r base s began ts clean request narrow third =
-    asked-fresh r base (run base s ts) (after r base s began ts) clean request narrow third
+    asked-fresh r base (run base s ts) (after r base s began ts) (still-good r base s began ts) clean request narrow third
 
 -- a notice
 pub strikes-exactly : (ws : List ℕ) (start size : ℕ) → length ws ≡ 1227 → StrikesExactly ws start size
@@ -207,3 +207,13 @@ refused-changes-nothing ws base size request new n is =
 
 pub starts-empty : StartsEmpty
 starts-empty r e slots i small = opened-empty r e slots i small
+
+-- each promise is an equation for the result and for the words
+pub one-opening : OneOpening
+one-opening r e slots before x y after other a b = (a .result ∙ sym (b .result), a .book ∙ sym (b .book))
+
+pub one-ask : OneAsk
+one-ask ws base memory request x y after other a b = (a .result ∙ sym (b .result), a .book ∙ sym (b .book))
+
+pub one-notice : OneNotice
+one-notice ws start size x y after other a b = (a .result ∙ sym (b .result), a .book ∙ sym (b .book))

@@ -5,3 +5,4 @@ pub mod WellLaws
 pub mod KeepsLaws
 pub mod HistoryLaws
 pub mod Claims
+pub mod Uses

@@ -7,6 +7,7 @@
 --     LowestEmpty       a new answer goes in the lowest empty slot
 --     KeptChangesNothing, FullChangesNothing, RefusedChangesNothing     asks that leave every word
 --     StartsEmpty       all slots are empty at opening
+--     OneOpening, OneAsk, OneNotice     any two results that a promise allows for one input are equal, and so are the words afterwards
 -- Assumes: nothing.
 use Prim.Native.Nat.{ℕ, _+_, _-_, _^_, _≤_, _<_}
 use mathlib.Core.Path.{_≡_}
@@ -28,9 +29,10 @@ use Rattle.lookup.specs.declared.Answer.{Answer}
 use Rattle.lookup.specs.declared.Answer.the-variants as looked
 use Rattle.book.specs.Layout.{slotsMost, bookWords, keysFrom, slotsOf, keyAt, blockAt, openedWith}
 use Rattle.book.specs.Malformed.{refusal7}
-use Rattle.book.specs.Book.{slotOf, emptySlot, askResult, askBook, newLookup, shares, touched, struckFrom}
+use Rattle.book.specs.Book.{Opened, Asks, Noticed, slotOf, emptySlot, askResult, askBook, newLookup, shares, touched, struckFrom}
 use Rattle.book_history.specs.History.{State, Step, run, Clean, Began}
 use Rattle.book.specs.declared.Asked.{Asked}
+use Rattle.book.specs.declared.Said.{Said}
 use Rattle.book.specs.declared.Reply.{Reply}
 use Rattle.book.specs.declared.Reply.the-variants.{Refused, KeptBefore, NewlyKept, NotKept}
 
@@ -55,17 +57,16 @@ NeverStale =
     → (request : Request) → request .stream .number < 2 ^ 32 → refusal3 request ≡ false
     → lookedIn (askedAfter base (run base s ts) request) ≡ lookedUp r base (run base s ts .memory) request
 
+-- every held answer whose list no unannounced edit shares an address with is what a new lookup gives
+abbrev pub FreshIn : Registers → ℕ → State → Type 0
+FreshIn r base s =
+    (i : ℕ) → i < slotsMost → (keyAt (s .words) i ≡ 0 → ⊥) → Clean (s .dirty) (listOf (blockAt (s .words) i))
+    → (request : Request) → unpacked (keyAt (s .words) i - 1) ≡ Is request
+    → lookedUp r base (s .memory) request
+    ≡ record { answer = looked.Is (outcomeOf (blockAt (s .words) i)); list = listOf (blockAt (s .words) i) }
+
 abbrev pub StillGood : Type 0
-StillGood =
-    (r : Registers) (base : ℕ) (s : State) → Began r base s → (ts : List Step)
-    → (i : ℕ) → i < slotsMost → (keyAt (run base s ts .words) i ≡ 0 → ⊥)
-    → Clean (run base s ts .dirty) (listOf (blockAt (run base s ts .words) i))
-    → (request : Request) → unpacked (keyAt (run base s ts .words) i - 1) ≡ Is request
-    → lookedUp r base (run base s ts .memory) request
-    ≡ record {
-      answer = looked.Is (outcomeOf (blockAt (run base s ts .words) i));
-      list = listOf (blockAt (run base s ts .words) i);
-    }
+StillGood = (r : Registers) (base : ℕ) (s : State) → Began r base s → (ts : List Step) → FreshIn r base (run base s ts)
 
 abbrev pub NeverMalformed : Type 0
 NeverMalformed =
@@ -113,3 +114,18 @@ RefusedChangesNothing =
 
 abbrev pub StartsEmpty : Type 0
 StartsEmpty = (r : Registers) (e : Extent) (slots i : ℕ) → i < slotsMost → keyAt (openedWith r e slots) i ≡ 0
+
+abbrev pub OneOpening : Type 0
+OneOpening =
+    (r : Registers) (e : Extent) (slots : ℕ) (before : List ℕ) (x y : Said) (after other : List ℕ)
+    → Opened r e slots before x after → Opened r e slots before y other → (x ≡ y) × (after ≡ other)
+
+abbrev pub OneAsk : Type 0
+OneAsk =
+    (ws : List ℕ) (base : ℕ) (memory : List ℕ) (request : Request) (x y : Asked) (after other : List ℕ)
+    → Asks ws base memory request x after → Asks ws base memory request y other → (x ≡ y) × (after ≡ other)
+
+abbrev pub OneNotice : Type 0
+OneNotice =
+    (ws : List ℕ) (start size : ℕ) (x y : Said) (after other : List ℕ)
+    → Noticed ws start size x after → Noticed ws start size y other → (x ≡ y) × (after ≡ other)

@@ -1,3 +1,4 @@
--- Histories of a book, and what is claimed of them.
+-- Histories of a book, what is claimed of them, and what follows.
 pub mod History
 pub mod Claims
+pub mod Uses
