@@ -72,25 +72,25 @@ all-shots = (
 )
 
 -- a real memory from a function: its bytes are the function's, up to its end
-tab-length : (n : ℕ) (f : ℕ → ℕ) → length (tab n f) ≡ n
+pub tab-length : (n : ℕ) (f : ℕ → ℕ) → length (tab n f) ≡ n
 unfolding tab
 tab-length zero f = refl
 tab-length (suc n) f = ap suc (tab-length n (λ k. f (suc k)))
 
-tab-at : (n : ℕ) (f : ℕ → ℕ) (i : ℕ) → getD (tab n f) i 0 ≡ clip n f i
+pub tab-at : (n : ℕ) (f : ℕ → ℕ) (i : ℕ) → getD (tab n f) i 0 ≡ clip n f i
 unfolding tab
 tab-at zero f i = rw (leb·suc-zero i)
 tab-at (suc n) f zero = rw (leb·suc-suc zero n, leb·zero n)
 tab-at (suc n) f (suc i) = tab-at n (λ k. f (suc k)) i ∙ rw (leb·suc-suc (suc i) n)
 
-bytes-are : (n : ℕ) (f : ℕ → ℕ) → bytes (tab n f) ≡ clip n f
+pub bytes-are : (n : ℕ) (f : ℕ → ℕ) → bytes (tab n f) ≡ clip n f
 bytes-are n f = fun-ext (tab-at n f)
 
-extent-taken : (memory : List ℕ) → length memory ≡ 0x10000 → refusal2 (extentOf 0 memory) ≡ false
+pub extent-taken : (memory : List ℕ) → length memory ≡ 0x10000 → refusal2 (extentOf 0 memory) ≡ false
 unfolding refusal2
 extent-taken memory is = rw is
 
-real-run :
+pub real-run :
     (r : Registers) (memory : List ℕ) (f : ℕ → ℕ) (request : Request) → length memory ≡ 0x10000 → bytes memory ≡ f
     → ruled r 0 memory request ≡ run whole (2 ^ oasSize r) f (lookupRule r request)
 unfolding ruled

@@ -1,2 +1,3 @@
 -- The claims of specs/Claims.antt.
 pub mod Claims
+pub mod Histories

@@ -1,3 +1,4 @@
 -- The shots, and what is claimed of them.
 pub mod Shots
 pub mod Claims
+pub mod Histories
