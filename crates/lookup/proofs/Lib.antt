@@ -3,3 +3,4 @@ pub mod WalkLaws
 pub mod RuledLaws
 pub mod PartLaws
 pub mod Claims
+pub mod Uses

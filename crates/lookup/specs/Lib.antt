@@ -2,3 +2,4 @@
 pub mod Lookup
 pub mod Part
 pub mod Claims
+pub mod Uses

@@ -2,3 +2,4 @@
 pub mod ScanLaws
 pub mod PutLaws
 pub mod ReportLaws
+pub mod Claims

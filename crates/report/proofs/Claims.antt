@@ -1,0 +1,62 @@
+-- The claims of specs/Claims.antt, each under its own name.
+-- Assumes: nothing.
+use Prim.Native.Nat.{ℕ, _+_, _≤_, _<_}
+use native.Mathlib.Omega.{arith}
+use native.Mathlib.Nat.{zero-add}
+use mathlib.Core.Path.{_≡_, refl, sym, ap, _∙_}
+use mathlib.Core.Bool.{Bool, true, false}
+use mathlib.Core.List.{List}
+use borrow.Author.Tests.{ltb-false}
+use lib.Dec.{ltb}
+use lib.ListN.{getD, length}
+use Rattle.bit_fields.specs.Choice.{if_then_else_}
+use Rattle.book.specs.Malformed.{refusal7}
+use Rattle.book_history.specs.History.{run}
+use Rattle.book_history.proofs.Claims.{never-malformed}
+use Rattle.placed.specs.Placed.{placed}
+use Rattle.placed.proofs.PlacedLaws.{placed-at, placed-above}
+use Rattle.report.specs.Report.{Reported, ifWritten, reportSays, reportText}
+use Rattle.report.specs.Claims.{OneReport, LaterBytesStay, TextIsThere, OnlyRefusedForRoom}
+use Rattle.report.specs.declared.Written.{Written}
+use Rattle.report.specs.declared.Written.the-variants.{Refused, Length}
+
+pub one-report : OneReport
+one-report ws before x y after other a b = (a .result ∙ sym (b .result), a .buffer ∙ sym (b .buffer))
+
+-- a report that was written: its length, that it fits, and what the buffer holds
+record Wrote (ws before after : List ℕ) (n : ℕ) : Type 0 where
+  long : n ≡ length (reportText ws)
+  fits : 0 + length (reportText ws) ≤ length before
+  holds : after ≡ placed before 0 (reportText ws)
+
+wrote : (ws before after : List ℕ) (n : ℕ) → Reported ws before (Length n) after → Wrote ws before after n
+unfolding reportSays
+wrote ws before after n said = go (refusal7 ws) (ltb (length before) (length (reportText ws))) refl refl (said .result) (said .buffer)
+  where
+    go :
+        (a b : Bool) → refusal7 ws ≡ a → ltb (length before) (length (reportText ws)) ≡ b
+        → Length n ≡ (if a then Refused 7 else if b then Refused 8 else Length (length (reportText ws)))
+        → after ≡ ifWritten (if a then Refused 7 else if b then Refused 8 else Length (length (reportText ws))) before (placed before 0 (reportText ws))
+        → Wrote ws before after n
+    go true b x y result buffer = let z : _≡_ {A = ℕ} 0 1 = cc in absurd (omega arith)
+    go false true x y result buffer = let z : _≡_ {A = ℕ} 0 1 = cc in absurd (omega arith)
+    go false false x y result buffer =
+        let room : length (reportText ws) ≤ length before = ltb-false _ _ y in
+        record { long = cc; fits = omega arith; holds = buffer }
+
+pub later-bytes-stay : LaterBytesStay
+later-bytes-stay ws before after n x said past =
+    let w = wrote ws before after n said in
+    let l = w .long in
+    ap (λ (q : List ℕ). getD q x 0) (w .holds) ∙ placed-above before 0 (reportText ws) (w .fits) x (omega arith)
+
+pub text-is-there : TextIsThere
+text-is-there ws before after n x said inside =
+    let w = wrote ws before after n said in
+    let l = w .long in
+    let p = placed-at before 0 (reportText ws) (w .fits) x (omega arith) in
+    ap (λ (q : List ℕ). getD q x 0) (w .holds) ∙ rw (zero-add x) at p
+
+pub only-refused-for-room : OnlyRefusedForRoom
+unfolding reportSays
+only-refused-for-room r base s began ts room = simp (never-malformed r base s began ts)

@@ -1,0 +1,37 @@
+-- What is claimed of the report beyond its contract. proofs/Claims.antt proves each under its own name.
+--     OneReport         any two results that the promise allows for one input are equal, and so are the buffers
+--     LaterBytesStay    the bytes after the text are as they were
+--     TextIsThere       the first bytes are the text
+--     OnlyRefusedForRoom     after an accepted opening and any history, the report is refused only where its text doesn't fit
+-- Assumes: nothing.
+use Prim.Native.Nat.{ℕ, _≤_, _<_}
+use mathlib.Core.Path.{_≡_}
+use mathlib.Core.List.{List}
+use lib.Dec.{ltb}
+use lib.ListN.{getD, length}
+use Rattle.bit_fields.specs.Choice.{if_then_else_}
+use Rattle.registers.specs.declared.Registers.{Registers}
+use Rattle.book_history.specs.History.{State, Step, run, Began}
+use Rattle.report.specs.Report.{Reported, reportSays, reportText}
+use Rattle.report.specs.declared.Written.{Written}
+use Rattle.report.specs.declared.Written.the-variants.{Refused, Length}
+
+abbrev pub OneReport : Type 0
+OneReport =
+    (ws before : List ℕ) (x y : Written) (after other : List ℕ)
+    → Reported ws before x after → Reported ws before y other → (x ≡ y) × (after ≡ other)
+
+abbrev pub LaterBytesStay : Type 0
+LaterBytesStay =
+    (ws before after : List ℕ) (n x : ℕ) → Reported ws before (Length n) after → n ≤ x → getD after x 0 ≡ getD before x 0
+
+abbrev pub TextIsThere : Type 0
+TextIsThere =
+    (ws before after : List ℕ) (n x : ℕ) → Reported ws before (Length n) after → x < n
+    → getD after x 0 ≡ getD (reportText ws) x 0
+
+abbrev pub OnlyRefusedForRoom : Type 0
+OnlyRefusedForRoom =
+    (r : Registers) (base : ℕ) (s : State) → Began r base s → (ts : List Step) (room : ℕ)
+    → reportSays (run base s ts .words) room
+    ≡ (if ltb room (length (reportText (run base s ts .words))) then Refused 8 else Length (length (reportText (run base s ts .words))))
