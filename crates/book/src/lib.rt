@@ -11,8 +11,8 @@ use lookup::Looked;
 use registers::Registers;
 
 mod strike;
-mod well;
-mod words;
+pub mod well;
+pub mod words;
 
 // The most slots that a book has.
 pub const SLOTS_MOST: usize = 64;
