@@ -1,8 +1,8 @@
 // What each command does to a run. Start at `does`. Those on the book are in `kept`.
-use book::BOOK_WORDS;
 use crate::edits;
 use crate::state::State;
 use crate::state::front;
+use book::BOOK_WORDS;
 use ids::Request;
 use lookup::Answer;
 use registers::Registers;

@@ -32,7 +32,13 @@ impl State {
         let list = asked.list;
         match reply {
             Reply::Refused(number) => self.with_waiting(lines::refused(out, self.waiting, number)),
-            Reply::KeptBefore(answer) => self.answers(out, b"kept-before ", registers, answer, list),
+            Reply::KeptBefore(answer) => self.answers(
+                out,
+                b"kept-before ",
+                registers,
+                answer,
+                list,
+            ),
             Reply::NewlyKept(answer) => self.answers(out, b"newly-kept ", registers, answer, list),
             Reply::NotKept(answer) => self.answers(out, b"not-kept ", registers, answer, list),
         }
