@@ -4,9 +4,3 @@ pub mod WordsLaws
 pub mod MalformedLaws
 pub mod AskLaws
 pub mod NoticeLaws
-pub mod KeptLaws
-pub mod StruckLaws
-pub mod WellLaws
-pub mod KeepsLaws
-pub mod HistoryLaws
-pub mod Claims

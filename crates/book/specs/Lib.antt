@@ -2,5 +2,3 @@
 pub mod Layout
 pub mod Malformed
 pub mod Book
-pub mod History
-pub mod Claims

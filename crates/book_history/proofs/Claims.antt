@@ -25,17 +25,17 @@ use Rattle.lookup.specs.declared.Looked.{Looked}
 use Rattle.lookup.specs.declared.Answer.{Answer}
 use Rattle.lookup.specs.declared.Answer.the-variants as looked
 use Rattle.lookup.proofs.Claims.{refused-exactly}
-use Rattle.book.specs.Claims.{NeverStale, StillGood, NeverMalformed, StrikesExactly, Shared, SharesMeans, LowestEmpty, KeptChangesNothing, FullChangesNothing, RefusedChangesNothing, StartsEmpty, lookedIn, askedAfter}
+use Rattle.book_history.specs.Claims.{NeverStale, StillGood, NeverMalformed, StrikesExactly, Shared, SharesMeans, LowestEmpty, KeptChangesNothing, FullChangesNothing, RefusedChangesNothing, StartsEmpty, lookedIn, askedAfter}
 use Rattle.book.specs.Layout.{slotsOf, registersOf, baseOf, lengthOf, keyAt, blockAt}
 use Rattle.book.specs.Malformed.{firstFrom, refusal7}
 use Rattle.book.specs.Book.{slotOf, emptySlot, newly, nowHolding, otherExtent, refusedWith, askResult, askBook, newLookup, shares, touched, struckFrom}
-use Rattle.book.specs.History.{State, Step, run, Clean, Began}
+use Rattle.book_history.specs.History.{State, Step, run, Clean, Began}
 use Rattle.book.specs.declared.Asked.{Asked}
 use Rattle.book.specs.declared.Reply.the-variants.{Refused, KeptBefore, NewlyKept, NotKept}
-use Rattle.book.proofs.StruckLaws.{struck-else, struck-key}
-use Rattle.book.proofs.WellLaws.{Well, well-from, first-key, first-low}
-use Rattle.book.proofs.KeepsLaws.{opened-empty}
-use Rattle.book.proofs.HistoryLaws.{Sound, heldIn, run-sound, open-sound}
+use Rattle.book_history.proofs.StruckLaws.{struck-else, struck-key}
+use Rattle.book_history.proofs.WellLaws.{Well, well-from, first-key, first-low}
+use Rattle.book_history.proofs.KeepsLaws.{opened-empty}
+use Rattle.book_history.proofs.HistoryLaws.{Sound, heldIn, run-sound, open-sound}
 
 -- after any history
 after : (r : Registers) (base : ℕ) (s : State) → Began r base s → (ts : List Step) → Sound r base (run base s ts)

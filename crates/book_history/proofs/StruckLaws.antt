@@ -12,9 +12,9 @@ use lib.Dec.{eqb}
 use lib.ListN.{length, getD, set, length-set}
 use lib.Seq.{getD-set-same, getD-set-other}
 use Rattle.bit_fields.specs.Choice.{if_then_else_}
 use Rattle.book.specs.Layout.{keyAt, blockAt}
 use Rattle.book.specs.Book.{touched, strike, struckFrom}
-use Rattle.book.proofs.KeptLaws.{block-same}
+use Rattle.book_history.proofs.KeptLaws.{block-same}
 
 module _ (start size : ℕ) where
   strike-length : (ws : List ℕ) (i : ℕ) → length (strike ws start size i) ≡ length ws

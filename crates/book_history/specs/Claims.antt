@@ -26,13 +26,13 @@ use Rattle.lookup.specs.Lookup.{lookedUp}
 use Rattle.lookup.specs.declared.Looked.{Looked}
 use Rattle.lookup.specs.declared.Answer.{Answer}
 use Rattle.lookup.specs.declared.Answer.the-variants as looked
 use Rattle.book.specs.Layout.{slotsMost, bookWords, keysFrom, slotsOf, keyAt, blockAt, openedWith}
 use Rattle.book.specs.Malformed.{refusal7}
 use Rattle.book.specs.Book.{slotOf, emptySlot, askResult, askBook, newLookup, shares, touched, struckFrom}
-use Rattle.book.specs.History.{State, Step, run, Clean, Began}
+use Rattle.book_history.specs.History.{State, Step, run, Clean, Began}
 use Rattle.book.specs.declared.Asked.{Asked}
 use Rattle.book.specs.declared.Reply.{Reply}
 use Rattle.book.specs.declared.Reply.the-variants.{Refused, KeptBefore, NewlyKept, NotKept}
 
 -- an ask's answer and list, whether it was kept or not, as a lookup gives them
 abbrev pub answerIn : Reply → Answer

@@ -24,11 +24,11 @@ use Rattle.registers.specs.Sizes.{refusal1}
 use Rattle.registers.specs.declared.Registers.{Registers}
 use Rattle.memory_image.specs.Extent.{Extent, refusal2}
 use Rattle.answer_words.specs.AnswerWords.{stands}
 use Rattle.book.specs.Layout.{slotsOf, registersOf, extentHeld, keyAt, blockAt, keptAt}
 use Rattle.book.specs.Malformed.{firstFrom, someRequest, slotWell, wellFrom, narrowFrom, registersFit, refusal7}
 use Rattle.book.specs.Book.{touched, struckFrom}
-use Rattle.book.proofs.KeptLaws.{block-same, kept-before, kept-key, kept-key-other, kept-block, kept-block-other}
-use Rattle.book.proofs.StruckLaws.{struck-else, struck-key}
+use Rattle.book_history.proofs.KeptLaws.{block-same, kept-before, kept-key, kept-key-other, kept-block, kept-block-other}
+use Rattle.book_history.proofs.StruckLaws.{struck-else, struck-key}
 
 -- the search for a key: where it stops the key stands, and it stops at the first
 pub first-key : (m : ℕ) (ws : List ℕ) (x i : ℕ) → firstFrom ws x m i < i + m → keyAt ws (firstFrom ws x m i) ≡ x

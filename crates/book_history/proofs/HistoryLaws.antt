@@ -35,16 +35,16 @@ use Rattle.lookup.specs.declared.Looked.{Looked}
 use Rattle.lookup.specs.declared.Answer.{Answer}
 use Rattle.lookup.specs.declared.Answer.the-variants as looked
 use Rattle.lookup.proofs.Claims.{depends-on-list, listed-lies, answers-proper}
 use Rattle.book.specs.Layout.{slotsOf, registersOf, baseOf, lengthOf, keyAt, tab, blockAt, keptAt, openedWith}
 use Rattle.book.specs.Book.{shares, sharedFrom, touched, struckFrom, slotOf, emptySlot, nowHolding, newLookup, askBook, openSays, noticeSays, ifDone}
 use Rattle.book.specs.Malformed.{refusal7}
-use Rattle.book.specs.History.{State, Step, edit, notice, ask, report, edited, noticedAt, stillDirty, step, run, Clean, Began}
+use Rattle.book_history.specs.History.{State, Step, edit, notice, ask, report, edited, noticedAt, stillDirty, step, run, Clean, Began}
 use Rattle.book.specs.declared.Said.{Said}
 use Rattle.book.specs.declared.Said.the-variants as said
-use Rattle.book.proofs.KeptLaws.{kept-length, kept-before, kept-key, kept-key-other, kept-block, kept-block-other}
-use Rattle.book.proofs.StruckLaws.{struck-length, struck-else}
-use Rattle.book.proofs.WellLaws.{held-to, first-low, Well, well-to, well-from}
-use Rattle.book.proofs.KeepsLaws.{registers-same, kept-well, struck-well, struck-left, struck-block, open-well, opened-length, opened-registers, opened-empty}
+use Rattle.book_history.proofs.KeptLaws.{kept-length, kept-before, kept-key, kept-key-other, kept-block, kept-block-other}
+use Rattle.book_history.proofs.StruckLaws.{struck-length, struck-else}
+use Rattle.book_history.proofs.WellLaws.{held-to, first-low, Well, well-to, well-from}
+use Rattle.book_history.proofs.KeepsLaws.{registers-same, kept-well, struck-well, struck-left, struck-block, open-well, opened-length, opened-registers, opened-empty}
 
 -- what a slot's block says, as a lookup would
 abbrev pub heldIn : List ℕ → Looked

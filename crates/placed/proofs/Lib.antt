@@ -1,0 +1,3 @@
+-- Laws of specs/, for the crates above.
+pub mod PlacedLaws
+pub mod LeftLaws

@@ -1,0 +1,2 @@
+-- What the contracts of the crates above cite.
+pub mod Placed

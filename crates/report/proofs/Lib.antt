@@ -1,0 +1,4 @@
+-- Laws of specs/, for this crate and those above it.
+pub mod ScanLaws
+pub mod PutLaws
+pub mod ReportLaws

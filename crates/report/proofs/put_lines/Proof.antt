@@ -1,0 +1,59 @@
+-- Proof of `report::put_lines`.
+-- Assumes: nothing.
+use borrow.Author.Needs.{needs}
+use native.Mathlib.Omega.{arith}
+use Prim.Native.Nat.{_-_, _≤_}
+use Rattle.placed.specs.Placed.{Left}
+use Rattle.report.specs.Report.{linesFrom}
+use Rattle.report.proofs.PutLaws.{lines-start, line-room, line-more, lines-put}
+use Rattle.report.proofs.put_lines.Statement.{statement}
+use Rattle.report.proofs.put_lines.Tie as tie
+
+abbrev Inv-loop : tie.InvT-loop
+Inv-loop book out₀ at slots to₀ i₀ out to i = (i ≤ slots) × (slots ≤ 64) × Left out₀ at (linesFrom book slots 0) out to (linesFrom book (slots - i) i)
+
+abbrev μ-loop : tie.MeasureT-loop
+μ-loop book out₀ at slots to₀ i₀ out to i = slots - i
+
+element-copy-out-slots : tie.Need-element-copy-out-slots Inv-loop μ-loop
+element-copy-out-slots c = search needs
+
+loop-holds : tie.Need-loop-holds Inv-loop μ-loop
+loop-holds c = (omega arith, omega arith, search (needs, lines-start))
+
+line-at-requires : tie.Need-line-at-requires Inv-loop μ-loop
+line-at-requires c κs = search needs
+
+put-line-requires : tie.Need-put-line-requires Inv-loop μ-loop
+put-line-requires c κs = search (needs, line-room)
+
+add-i : tie.Need-add-i Inv-loop μ-loop
+add-i c = omega arith
+
+loop-less : tie.Need-loop-less Inv-loop μ-loop
+loop-less c = omega arith
+
+loop-again : tie.Need-loop-again Inv-loop μ-loop
+loop-again c = (omega arith, omega arith, search (needs, line-more))
+
+same-length : tie.Need-same-length Inv-loop μ-loop
+same-length c = search needs
+
+returns : tie.Need-returns Inv-loop μ-loop
+returns c = search (needs, lines-put)
+
+pub put-lines-spec : {M : Type 1} → statement M
+put-lines-spec =
+    tie.close
+    (tie.spec
+    Inv-loop
+    μ-loop
+    element-copy-out-slots
+    loop-holds
+    line-at-requires
+    put-line-requires
+    add-i
+    loop-less
+    loop-again
+    same-length
+    returns)

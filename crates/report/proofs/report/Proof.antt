@@ -1,0 +1,44 @@
+-- Proof of `report::report`.
+-- Assumes: nothing.
+use borrow.Author.Needs.{needs}
+use Rattle.book.proofs.MalformedLaws.{few-slots}
+use Rattle.report.proofs.ReportLaws.{report-malformed, report-short, header-room, lines-room, report-whole}
+use Rattle.report.proofs.report.Statement.{statement}
+use Rattle.report.proofs.report.Tie as tie
+
+is-malformed-requires : tie.Need-is-malformed-requires
+is-malformed-requires c κs = search needs
+
+returns : tie.Need-returns
+returns c = search (needs, report-malformed)
+
+text-length-requires : tie.Need-text-length-requires
+text-length-requires c κs = search (needs, few-slots)
+
+returns-2 : tie.Need-returns-2
+returns-2 c = search (needs, report-short)
+
+put-line-requires : tie.Need-put-line-requires
+put-line-requires c κs = search (needs, header-room)
+
+put-lines-requires : tie.Need-put-lines-requires
+put-lines-requires c κs = search (needs, few-slots, lines-room)
+
+same-length : tie.Need-same-length
+same-length c = search needs
+
+returns-3 : tie.Need-returns-3
+returns-3 c = search (needs, report-whole)
+
+pub report-spec : {M : Type 1} → statement M
+report-spec =
+    tie.close
+    (tie.spec
+    is-malformed-requires
+    returns
+    text-length-requires
+    returns-2
+    put-line-requires
+    put-lines-requires
+    same-length
+    returns-3)

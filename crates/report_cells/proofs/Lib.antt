@@ -1,0 +1,3 @@
+-- Laws of specs/, for this crate and those above it.
+pub mod TextLaws
+pub mod CellsLaws

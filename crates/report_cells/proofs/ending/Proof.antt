@@ -1,0 +1,15 @@
+-- Proof of `report_cells::ending`.
+-- Assumes: nothing.
+use borrow.Author.Needs.{needs}
+use Rattle.report_cells.proofs.CellsLaws.{ends-line, ends-cell}
+use Rattle.report_cells.proofs.ending.Statement.{statement}
+use Rattle.report_cells.proofs.ending.Tie as tie
+
+returns : tie.Need-returns
+returns c = search (needs, ends-line)
+
+returns-2 : tie.Need-returns-2
+returns-2 c = search (needs, ends-cell)
+
+pub ending-spec : {M : Type 1} → statement M
+ending-spec = tie.close (tie.spec returns returns-2)

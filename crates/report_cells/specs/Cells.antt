@@ -1,0 +1,97 @@
+-- The report's cells and lines (01, "The book": the report).
+--     lineText       a line: its cells parted by one tab, and a line feed: start here
+--     cellText       a line's cell in a column: 0 slot, 1 stream, 2 substream, 3 outcome, 4 event
+-- Assumes: nothing.
+use Prim.Native.Nat.{ℕ, zero, suc, _+_}
+use mathlib.Core.Bool.{Bool, true, false}
+use mathlib.Core.List.{List, [], _∷_, _++_}
+use lib.Dec.{eqb}
+use Rattle.bit_fields.specs.Choice.{if_then_else_}
+use Rattle.ids.specs.declared.Request.{Request}
+use Rattle.ids.specs.declared.Substream.{Substream}
+use Rattle.ids.specs.declared.Substream.the-variants.{Without, With}
+use Rattle.registers.specs.declared.Registers.{Registers}
+use Rattle.answers.specs.Outcome.{recorded}
+use Rattle.answers.specs.declared.Outcome.{Outcome}
+use Rattle.answers.specs.declared.Outcome.the-variants.{Translate, Bypass, BypassGlobal, Abort, Quiet, Unserved}
+use Rattle.report_cells.specs.Text.{bytes, decimalText, hexLower, hexUpper}
+use Rattle.report_cells.specs.declared.Entry.{Entry}
+use Rattle.report_cells.specs.declared.Line.{Line}
+use Rattle.report_cells.specs.declared.Line.the-variants.{Nothing, Header, Kept}
+
+unfoldable pub headerText : ℕ → List ℕ
+headerText column =
+    if eqb column 0 then bytes "slot"
+    else if eqb column 1 then bytes "stream"
+    else if eqb column 2 then bytes "substream"
+    else if eqb column 3 then bytes "outcome"
+    else bytes "event"
+
+unfoldable pub streamText : Request → List ℕ
+streamText request = hexLower 8 (request .stream .number)
+
+abbrev pub substreamIn : Substream → List ℕ
+substreamIn Without = bytes "-"
+substreamIn (With s) = hexLower 5 (s .number)
+
+unfoldable pub substreamText : Request → List ℕ
+substreamText request = substreamIn (request .substream)
+
+unfoldable pub abortText : Bool → List ℕ
+abortText true = bytes "abort"
+abortText false = bytes "unrecorded"
+
+unfoldable pub outcomeText : Registers → Outcome → List ℕ
+outcomeText r (Translate t) = bytes "translate"
+outcomeText r (Bypass ste) = bytes "bypass"
+outcomeText r BypassGlobal = bytes "bypass"
+outcomeText r (Abort event) = abortText (recorded r event)
+outcomeText r Quiet = bytes "quiet"
+outcomeText r (Unserved n) = bytes "unserved"
+
+unfoldable pub eventText : Outcome → List ℕ
+eventText (Translate t) = bytes "-"
+eventText (Bypass ste) = bytes "-"
+eventText BypassGlobal = bytes "-"
+eventText (Abort event) = hexUpper 2 event
+eventText Quiet = bytes "-"
+eventText (Unserved n) = decimalText n
+
+unfoldable pub keptText : Entry → ℕ → List ℕ
+keptText e column =
+    if eqb column 0 then decimalText (e .slot)
+    else if eqb column 1 then streamText (e .request)
+    else if eqb column 2 then substreamText (e .request)
+    else if eqb column 3 then outcomeText (e .registers) (e .outcome)
+    else eventText (e .outcome)
+
+unfoldable pub cellText : Line → ℕ → List ℕ
+cellText Nothing column = []
+cellText Header column = headerText column
+cellText (Kept e) column = keptText e column
+
+-- an empty slot has no line
+unfoldable pub columnsOf : Line → ℕ
+columnsOf Nothing = 0
+columnsOf Header = 5
+columnsOf (Kept e) = 5
+
+abbrev pub tabStop : ℕ
+tabStop = 9
+
+abbrev pub lineFeed : ℕ
+lineFeed = 10
+
+-- what follows the cell in a column: a line feed after the last, a tab after the others
+unfoldable pub endingOf : ℕ → ℕ
+endingOf column =
+    if eqb column 4 then lineFeed
+    else tabStop
+
+-- m cells from a column on, each with what follows it
+unfoldable pub cellsFrom : Line → ℕ → ℕ → List ℕ
+cellsFrom line zero column = []
+cellsFrom line (suc m) column = (cellText line column ++ (endingOf column ∷ [])) ++ cellsFrom line m (column + 1)
+
+unfoldable pub lineText : Line → List ℕ
+lineText line = cellsFrom line (columnsOf line) 0
