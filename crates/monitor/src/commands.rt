@@ -34,7 +34,7 @@ impl State {
             Said::Open(slots) => self.open(book, out, slots),
             Said::Ask(request) => self.ask(memory, book, out, request),
             Said::Notice(start, length) => self.notice(book, out, start, length),
-            Said::Report => self,
+            Said::Report => self.report(book, out),
         }
     }
 

@@ -8,6 +8,7 @@ use book::Reply;
 use book::Said;
 use ids::Request;
 use registers::Registers;
+use report::Written;
 
 impl State {
     // Opens the book with today's registers and memory.
@@ -17,7 +18,7 @@ impl State {
         self.says(out, said, b"opened\n")
     }
 
-    // Asks the book, and writes whether the answer was kept, and the answer. It is by the book's registers.
+    // Asks the book, and writes whether the answer was kept, and the answer, by the book's registers.
     pub fn ask(
         self,
         memory: &[u8],
@@ -32,15 +33,9 @@ impl State {
         let list = asked.list;
         match reply {
             Reply::Refused(number) => self.with_waiting(lines::refused(out, self.waiting, number)),
-            Reply::KeptBefore(answer) => self.answers(
-                out,
-                b"kept-before ",
-                registers,
-                answer,
-                list,
-            ),
-            Reply::NewlyKept(answer) => self.answers(out, b"newly-kept ", registers, answer, list),
-            Reply::NotKept(answer) => self.answers(out, b"not-kept ", registers, answer, list),
+            Reply::KeptBefore(found) => self.gives(out, b"kept-before ", registers, found, list),
+            Reply::NewlyKept(found) => self.gives(out, b"newly-kept ", registers, found, list),
+            Reply::NotKept(found) => self.gives(out, b"not-kept ", registers, found, list),
         }
     }
 
@@ -56,6 +51,26 @@ impl State {
         self.says(out, said, b"noticed\n")
     }
 
+    // Writes the report. There is room for the longest, 2,084 bytes, as before every line (`with_room`).
+    pub fn report(self, book: &[u64; BOOK_WORDS], out: &mut [u8]) -> Self {
+        let at = self.waiting;
+        if out.len() < at {
+            return self;
+        }
+        let room = out.len() - at;
+        let written = report::report(book, &mut out[at..]);
+        match written {
+            Written::Refused(number) => self.with_waiting(lines::refused(out, at, number)),
+            Written::Length(length) => {
+                // The text fits, as `report` promises; this test spares a proof of that here.
+                if room < length {
+                    return self;
+                }
+                self.with_waiting(at + length)
+            }
+        }
+    }
+
     // Writes that a call was done, in these words, or its refusal.
     fn says(self, out: &mut [u8], said: Said, done: &[u8]) -> Self {
         match said {
@@ -65,7 +80,7 @@ impl State {
     }
 
     // Writes whether an answer was kept, and then the answer.
-    fn answers(
+    fn gives(
         self,
         out: &mut [u8],
         kept: &[u8],

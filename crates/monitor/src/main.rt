@@ -11,7 +11,8 @@ mod edits;
 mod kept;
 mod state;
 
-// The buffers: what was read, the line so far, the lent memory, the book's words, and what waits to be written.
+// The buffers: what was read, the line so far, the lent memory, the book's words, and what waits to be
+// written.
 fn main() {
     let mut input = [0u8; 65536];
     let mut line = [0u8; 4096];
