@@ -1,7 +1,8 @@
-// What each command does to a run. Start at `does`.
+// What each command does to a run. Start at `does`. Those on the book are in `kept`.
 use crate::edits;
 use crate::state::State;
 use crate::state::front;
+use book::BOOK_WORDS;
 use ids::Request;
 use lookup::Answer;
 use registers::Registers;
@@ -10,7 +11,13 @@ use script::names::Register;
 
 impl State {
     // Does what a line says. A new command has a case here, and one in `script`.
-    pub fn does(self, text: &[u8], memory: &mut [u8], out: &mut [u8]) -> Self {
+    pub fn does(
+        self,
+        text: &[u8],
+        memory: &mut [u8],
+        book: &mut [u64; BOOK_WORDS],
+        out: &mut [u8],
+    ) -> Self {
         let said = script::read(text, self.base, self.length as u64);
         match said {
             Said::Nothing => self,
@@ -24,6 +31,10 @@ impl State {
             } => self.put(memory, offset, times, words::nth(text, word)),
             Said::Lookup(request) => self.lookup(memory, out, request),
             Said::Part(request) => self.part(memory, out, request),
+            Said::Open(slots) => self.open(book, out, slots),
+            Said::Ask(request) => self.ask(memory, book, out, request),
+            Said::Notice(start, length) => self.notice(book, out, start, length),
+            Said::Report => self.report(book, out),
         }
     }
 

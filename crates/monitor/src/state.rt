@@ -1,4 +1,5 @@
 // Where a run stands, from line to line. Start at `finish_line`.
+use book::BOOK_WORDS;
 use libc::STDOUT_FILENO;
 use registers::Registers;
 
@@ -77,16 +78,28 @@ impl State {
     }
 
     // Does the line that has ended, and goes on to the next.
-    pub fn finish_line(self, line: &[u8], memory: &mut [u8], out: &mut [u8]) -> Self {
+    pub fn finish_line(
+        self,
+        line: &[u8],
+        memory: &mut [u8],
+        book: &mut [u64; BOOK_WORDS],
+        out: &mut [u8],
+    ) -> Self {
         let ready = self.with_room(out);
         let text = words::without_return(front(line, self.pending));
-        let done = ready.does(text, memory, out);
+        let done = ready.does(text, memory, book, out);
         done.next_line()
     }
 
     // Does the last line, which may lack its end, and ends the run.
-    pub fn last_line(self, line: &[u8], memory: &mut [u8], out: &mut [u8]) -> Self {
-        let last = self.finish_line(line, memory, out);
+    pub fn last_line(
+        self,
+        line: &[u8],
+        memory: &mut [u8],
+        book: &mut [u64; BOOK_WORDS],
+        out: &mut [u8],
+    ) -> Self {
+        let last = self.finish_line(line, memory, book, out);
         last.flushed(out).end()
     }
 

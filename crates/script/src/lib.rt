@@ -3,18 +3,22 @@
 use edits::fill;
 use edits::write;
 use ids::Request;
+use kept::notice;
+use kept::open;
 use names::Command;
 use names::Register;
 use names::command_of;
 use reasons::NO_SUCH_COMMAND;
 use reasons::TOO_FEW_WORDS;
 use reasons::TOO_MANY_WORDS;
+use requests::ask;
 use requests::lookup;
 use requests::part;
 use settings::memory;
 use settings::register;
 
 mod edits;
+mod kept;
 pub mod names;
 pub mod reasons;
 mod requests;
@@ -37,6 +41,12 @@ pub enum Said {
     },
     Lookup(Request),
     Part(Request),
+    // The book is opened with so many slots.
+    Open(u64),
+    Ask(Request),
+    // The bytes from a start on, so many, were edited.
+    Notice(u64, u64),
+    Report,
 }
 
 // What a line says, where the lent memory has that base and length.
@@ -57,6 +67,10 @@ pub fn read(line: &[u8], base: u64, length: u64) -> Said {
         Command::Fill => counted(fill(line, base, length), count, 4, 4),
         Command::Lookup => counted(lookup(line, count), count, 2, 3),
         Command::Part => counted(part(line, count), count, 2, 3),
+        Command::Open => counted(open(line), count, 2, 2),
+        Command::Ask => counted(ask(line, count), count, 2, 3),
+        Command::Notice => counted(notice(line), count, 3, 3),
+        Command::Report => counted(Said::Report, count, 1, 1),
         Command::Unknown => Said::Wrong(NO_SUCH_COMMAND),
     }
 }

@@ -7,6 +7,10 @@ pub enum Command {
     Fill,
     Lookup,
     Part,
+    Open,
+    Ask,
+    Notice,
+    Report,
     Unknown,
 }
 
@@ -29,6 +33,23 @@ pub fn command_of(word: &[u8]) -> Command {
     }
     if check::same(word, b"part") {
         return Command::Part;
+    }
+    of_the_book(word)
+}
+
+// The command on the book that a word names.
+fn of_the_book(word: &[u8]) -> Command {
+    if check::same(word, b"open") {
+        return Command::Open;
+    }
+    if check::same(word, b"ask") {
+        return Command::Ask;
+    }
+    if check::same(word, b"notice") {
+        return Command::Notice;
+    }
+    if check::same(word, b"report") {
+        return Command::Report;
     }
     Command::Unknown
 }

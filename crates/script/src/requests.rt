@@ -1,4 +1,4 @@
-// The lines that name a request: `lookup` and `part`.
+// The lines that name a request: `lookup`, `part` and `ask`.
 use crate::Said;
 use crate::reasons::NUMBER_TOO_LARGE;
 use crate::reasons::RIGHT;
@@ -22,6 +22,14 @@ pub fn lookup(line: &[u8], count: usize) -> Said {
 pub fn part(line: &[u8], count: usize) -> Said {
     match asked(line, count) {
         Made::Is(request) => Said::Part(request),
+        Made::Wrong(wrong) => Said::Wrong(wrong),
+    }
+}
+
+// `ask STREAM [SUBSTREAM]`
+pub fn ask(line: &[u8], count: usize) -> Said {
+    match asked(line, count) {
+        Made::Is(request) => Said::Ask(request),
         Made::Wrong(wrong) => Said::Wrong(wrong),
     }
 }

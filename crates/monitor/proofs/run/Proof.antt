@@ -7,12 +7,12 @@ use Rattle.monitor.proofs.run.Statement.{statement}
 use Rattle.monitor.proofs.run.Tie as tie
 
 abbrev Inv-loop : tie.InvT-loop
-Inv-loop input₀ line₀ memory₀ out₀ state₀ turns₀ input line memory out state turns =
+Inv-loop input₀ line₀ memory₀ book₀ out₀ state₀ turns₀ input line memory book out state turns =
     (length input ≡ length input₀) × (length line ≡ length line₀)
     × (length memory ≡ length memory₀) × (length out ≡ length out₀)
 
 abbrev μ-loop : tie.MeasureT-loop
-μ-loop input₀ line₀ memory₀ out₀ state₀ turns₀ input line memory out state turns = turns
+μ-loop input₀ line₀ memory₀ book₀ out₀ state₀ turns₀ input line memory book out state turns = turns
 
 new-requires : tie.Need-new-requires Inv-loop μ-loop
 new-requires c κs = search needs

@@ -8,12 +8,12 @@ use Rattle.monitor.proofs.take_all.Statement.{statement}
 use Rattle.monitor.proofs.take_all.Tie as tie
 
 abbrev Inv-loop : tie.InvT-loop
-Inv-loop bytes line₀ memory₀ out₀ now₀ i₀ line memory out now i =
+Inv-loop bytes line₀ memory₀ book₀ out₀ now₀ i₀ line memory book out now i =
     (i ≤ length bytes) × (length line ≡ length line₀)
     × (length memory ≡ length memory₀) × (length out ≡ length out₀)
 
 abbrev μ-loop : tie.MeasureT-loop
-μ-loop bytes line₀ memory₀ out₀ now₀ i₀ line memory out now i = length bytes - i
+μ-loop bytes line₀ memory₀ book₀ out₀ now₀ i₀ line memory book out now i = length bytes - i
 
 loop-holds : tie.Need-loop-holds Inv-loop μ-loop
 loop-holds c = search needs
