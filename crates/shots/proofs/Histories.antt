@@ -21,8 +21,9 @@ use Rattle.memory_image.specs.Rule.{run, andThen}
 use Rattle.memory_image.specs.Words.{word}
 use Rattle.memory_image.specs.declared.Piece.{Piece}
 use Rattle.answers.specs.Pieces.{piecesOf}
-use Rattle.answers.specs.Proper.{properOutcome, properPieces}
-use Rattle.answers.specs.declared.Outcome.the-variants.{Bypass, Quiet}
+use Rattle.answers.specs.Outcome.{recorded}
+use Rattle.answers.specs.Proper.{listedEvent, properOutcome, properPieces}
+use Rattle.answers.specs.declared.Outcome.the-variants.{Abort, Bypass, Quiet}
 use Rattle.answers.specs.declared.Pieces.{Pieces}
 use Rattle.answer_words.specs.AnswerWords.{laidOut, wordsOf, outcomeOf, listOf, stands}
 use Rattle.stream_table.specs.StreamTable.{streamRule, linear, splitOf, l1stdAt, holds, leafRule, twoLevelRule}
@@ -37,8 +38,11 @@ use Rattle.book.specs.Malformed.{firstFrom, slotWell, wellFrom, narrowFrom, ref
 use Rattle.book.specs.Book.{openSays, askBook, askResult, emptySlot, slotOf, ifDone, newLookup, shares, sharedFrom, touched, strike, struckFrom, noticeSays}
 use Rattle.book.specs.declared.Reply.the-variants.{Refused}
 use Rattle.book_history.specs.History.{Began, Clean, noticedAt, step, run as ran, notice, edit}
+use Rattle.report_cells.specs.Text.{bytes, decimalText, digits}
+use Rattle.report_cells.specs.Cells.{lineText, cellsFrom, columnsOf, endingOf, cellText, headerText, keptText, streamText, substreamText, outcomeText, abortText, eventText}
+use Rattle.report.specs.Report.{reportText, linesFrom, lineAt, lineFor}
 use Rattle.shots.specs.Shots.{plain, figure, of, piece, byteOf, clip, whole}
-use Rattle.shots.specs.Histories.{benchMemory, opened, asks, key, Keys, twoHeld, says, BothStruck, SlotUsedAgain, FullAndKept, edited, StaleCaught, atEdges, EdgesLeaveIt}
+use Rattle.shots.specs.Histories.{benchMemory, opened, asks, key, Keys, twoHeld, says, BothStruck, SlotUsedAgain, FullAndKept, edited, StaleCaught, atEdges, EdgesLeaveIt, SampleReport}
 use Rattle.lookup.proofs.Claims.{refused-exactly}
 use Rattle.book_history.proofs.Claims.{never-stale, still-good, full-changes-nothing, kept-changes-nothing, refused-changes-nothing}
 use Rattle.book_history.proofs.Uses.{first-slot-first, never-refused-seven}
@@ -259,3 +263,31 @@ module _ (b : 256 < 2 ^ 32) where
           (of 256 Without) (ap (λ (ws : List ℕ). unpacked (keyAt ws 0 - 1)) is ∙ computed .is-alone)
       ∙ ap (λ (ws : List ℕ). record { answer = looked.Is (outcomeOf (blockAt ws 0)); list = listOf (blockAt ws 0) }) is
       ∙ computed .said-alone
+
+-- the report of 256 and 260
+says-260 : Looked
+says-260 = answered (record { answer = Abort 0x02; list = piece 0x8008 8 ∷ [] })
+
+looked-260 : lookedUp plain 0 benchMemory (of 260 Without) ≡ says-260
+unfolding says-260
+looked-260 = real-shots .1 .1 .1 .1 .0
+
+sampled : List ℕ
+sampled = askBook alone 0 0x10000 (of 260 Without) says-260
+
+plain-alone : registersOf alone ≡ plain
+unfolding askBook refusal7 narrowFrom wellFrom slotWell firstFrom registersOf openedWith blockAt tab copied packed unpacked laidOut wordsOf outcomeOf listOf stands refusal1 refusal2 refusal3 properOutcome listedEvent properPieces piecesOf sizeOf oasSize alone
+plain-alone = refl
+
+sample-text : reportText sampled ≡ bytes "slot\tstream\tsubstream\toutcome\tevent\n0\t00000100\t-\tbypass\t-\n1\t00000104\t-\tabort\t02\n"
+unfolding askBook refusal7 narrowFrom wellFrom slotWell firstFrom registersOf openedWith blockAt tab copied packed unpacked laidOut wordsOf outcomeOf listOf stands refusal1 refusal2 refusal3 properOutcome listedEvent properPieces piecesOf sizeOf oasSize says-260 alone sampled reportText linesFrom lineAt lineFor lineText cellsFrom columnsOf endingOf cellText headerText keptText streamText substreamText outcomeText abortText eventText decimalText digits recorded
+sample-text = refl
+
+pub sample-report : SampleReport
+unfolding alone sampled openedWith registersOf
+sample-report b d =
+    ap reportText
+    (ap (λ (ws : List ℕ). askBook ws 0 (length benchMemory) (of 260 Without) (newLookup ws 0 benchMemory (of 260 Without)))
+        (asked (openedWith plain whole 2) (of 256 Without) (says (Bypass 0x2f00)) refl looked-256)
+    ∙ asked alone (of 260 Without) says-260 plain-alone looked-260)
+    ∙ sample-text

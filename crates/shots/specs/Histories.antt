@@ -5,6 +5,7 @@
 --     EdgesLeaveIt     StillGood: edits of the bytes right before and right after a list's pieces, without notice, leave its answer good
 --     SlotUsedAgain    LowestEmpty: a struck slot is the next to be filled
 --     FullAndKept      FullChangesNothing, KeptChangesNothing, RefusedChangesNothing: at the last slot, in a full book, at another base
+--     SampleReport     the report of 01
 -- Assumes: nothing.
 use Prim.Native.Nat.{ℕ, _^_, _<_}
 use mathlib.Core.Path.{_≡_}
@@ -20,6 +21,8 @@ use Rattle.book.specs.Layout.{tab, keyAt, keyOf, openedWith}
 use Rattle.book.specs.Book.{askBook, emptySlot}
 use Rattle.book_history.specs.History.{State, Step, edit, notice, ask, step, run}
 use Rattle.book_history.specs.Claims.{askedAfter, lookedIn}
+use Rattle.report_cells.specs.Text.{bytes}
+use Rattle.report.specs.Report.{reportText}
 use Rattle.shots.specs.Shots.{plain, figure, of, piece, byteOf, whole}
 
 abbrev pub benchMemory : List ℕ
@@ -81,3 +84,10 @@ module _ (b : 256 < 2 ^ 32) where
 
   abbrev pub EdgesLeaveIt : Type 0
   EdgesLeaveIt = (other : List ℕ) → lookedUp plain 0 (run 0 (opened 2) (atEdges other) .memory) (of 256 Without) ≡ says (Bypass 0x2f00)
+
+-- 01's sample: the report after asks for 256 and 260
+abbrev pub SampleReport : Type 0
+SampleReport =
+    (b : 256 < 2 ^ 32) (d : 260 < 2 ^ 32)
+    → reportText (run 0 (opened 2) (asks 256 b ∷ (asks 260 d ∷ [])) .words)
+    ≡ bytes "slot\tstream\tsubstream\toutcome\tevent\n0\t00000100\t-\tbypass\t-\n1\t00000104\t-\tabort\t02\n"
