@@ -25,9 +25,9 @@ use Rattle.answer_words.specs.AnswerWords.{wordsOf, outcomeOf, listOf}
 use Rattle.lookup.specs.Lookup.{lookedUp}
 use Rattle.lookup.specs.declared.Looked.{Looked}
 use Rattle.lookup.specs.declared.Answer.the-variants.{Refused, Is}
-use Rattle.book.specs.Layout.{slotsOf, registersOf, blockAt, keptAt, openedWith}
-use Rattle.book.specs.Malformed.{firstFrom, refusal7}
-use Rattle.book.specs.Book.{openSays, Opened, otherExtent, askResult, askBook, Asks, Keeps, newLookup, refusedWith}
+use Rattle.book_words.specs.Layout.{slotsOf, registersOf, blockAt, keptAt, openedWith, otherExtent}
+use Rattle.book_words.specs.Malformed.{firstFrom, refusal7}
+use Rattle.book.specs.Book.{openSays, Opened, askResult, askBook, Asks, Keeps, newLookup, refusedWith}
 use Rattle.book.specs.declared.Asked.{Asked}
 use Rattle.book.specs.declared.Said.the-variants as said
 use Rattle.book.specs.declared.Reply.the-variants as reply

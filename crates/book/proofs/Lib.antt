@@ -1,6 +1,4 @@
 -- Laws of specs/, for this crate and those above it.
 pub mod ScanLaws
-pub mod WordsLaws
-pub mod MalformedLaws
 pub mod AskLaws
 pub mod NoticeLaws

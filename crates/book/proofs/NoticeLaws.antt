@@ -15,8 +15,8 @@ use lib.ListN.{set}
 use Rattle.memory_image.specs.declared.Piece.{Piece}
 use Rattle.answers.specs.declared.Pieces.{Pieces}
 use Rattle.answer_words.specs.AnswerWords.{listOf}
-use Rattle.book.specs.Layout.{keyAt, blockAt}
-use Rattle.book.specs.Malformed.{refusal7}
+use Rattle.book_words.specs.Layout.{keyAt, blockAt}
+use Rattle.book_words.specs.Malformed.{refusal7}
 use Rattle.book.specs.Book.{shares, sharedFrom, touched, strike, struckFrom, noticeSays, Noticed}
 use Rattle.book.specs.declared.Said.the-variants as said
 

@@ -25,8 +25,8 @@ use Rattle.lookup.specs.Lookup.{lookedUp}
 use Rattle.lookup.specs.declared.Looked.{Looked}
 use Rattle.lookup.specs.declared.Answer.{Answer}
 use Rattle.lookup.specs.declared.Answer.the-variants.{Refused, Is}
-use Rattle.book.specs.Layout.{slotsMost, slotsOf, registersOf, baseOf, lengthOf, keysFrom, keyAt, blockAt, keyOf, keptAt, openedWith}
-use Rattle.book.specs.Malformed.{firstFrom, refusal7}
+use Rattle.book_words.specs.Layout.{slotsMost, slotsOf, registersOf, otherExtent, keysFrom, keyAt, blockAt, keyOf, keptAt, openedWith}
+use Rattle.book_words.specs.Malformed.{firstFrom, refusal7}
 use Rattle.book.specs.declared.Asked.{Asked}
 use Rattle.book.specs.declared.Said.{Said}
 use Rattle.book.specs.declared.Said.the-variants as said
@@ -69,10 +69,6 @@ abbrev pub nowHolding : Bool → List ℕ → ℕ → ℕ → Answer → Pieces 
 nowHolding room ws i key (Refused n) list = ws
 nowHolding true ws i key (Is outcome) list = keptAt ws i key (wordsOf outcome list)
 nowHolding false ws i key (Is outcome) list = ws
-
--- the memory that an ask is handed is the one that the book was opened with
-abbrev pub otherExtent : List ℕ → ℕ → ℕ → Bool
-otherExtent ws base size = not (eqb base (baseOf ws) && eqb size (lengthOf ws))
 
 -- ask: refusals 7, 6, 3; from its slot; or by a new lookup, kept in the lowest empty slot or not kept
 unfoldable pub askResult : List ℕ → ℕ → ℕ → Request → Looked → Asked

@@ -1,25 +1,17 @@
 // The book of kept answers: open, ask, notice. Start at `ask`.
-// Meets specs/Book.antt, over the words of specs/Layout.antt. A refused call leaves every word.
+// Meets specs/Book.antt, over the words of book_words. A refused call leaves every word.
 ghost use mathlib.Core.Path.{_≡_};
 ghost use Prim.Native.Nat.{_≤_};
 ghost use Rattle.book.specs.Book.{Asks, Keeps, Noticed, Opened, newLookup, refusedWith};
 use answers::Outcome;
 use answers::Pieces;
+use book_words::BOOK_WORDS;
 use ids::Request;
 use lookup::Answer;
 use lookup::Looked;
 use registers::Registers;
 
 mod strike;
-pub mod well;
-pub mod words;
-
-// The most slots that a book has.
-pub const SLOTS_MOST: usize = 64;
-
-// The words of a book: the number of slots, eight registers, the base and the length; a key for each
-// slot; a block for each slot.
-pub const BOOK_WORDS: usize = 1227;
 
 // What a call without an answer of its own says.
 pub enum Said {
@@ -63,7 +55,7 @@ pub fn open(
     if 64 < slots {
         return Said::Refused(4);
     }
-    words::fill(book, registers, base, length, slots);
+    book_words::fill(book, registers, base, length, slots);
     Said::Done
 }
 
@@ -82,10 +74,10 @@ fn refuse(number: u64) -> Asked
 pub fn ask(book: &mut [u64; BOOK_WORDS], base: u64, memory: &[u8], request: Request) -> Asked
     ensures { λ r. ⌜ Asks (now (book .entry)) base (now (memory .entry)) request r (now (book .exit)) ⌝ }
 {
-    if well::is_malformed(&*book) {
+    if book_words::well::is_malformed(&*book) {
         return refuse(7);
     }
-    if words::is_other(&*book, base, memory.len() as u64) {
+    if book_words::is_other(&*book, base, memory.len() as u64) {
         return refuse(6);
     }
     if request.refused() {
@@ -93,9 +85,9 @@ pub fn ask(book: &mut [u64; BOOK_WORDS], base: u64, memory: &[u8], request: Requ
     }
     let slots = book[0] as usize;
     let key = request.pack() + 1;
-    let slot = words::find(&*book, key, slots);
+    let slot = book_words::find(&*book, key, slots);
     if slot < slots {
-        let block = words::block(&*book, slot);
+        let block = book_words::block(&*book, slot);
         let outcome = answer_words::outcome_of(block);
         let list = answer_words::list_of(block);
         return Asked {
@@ -118,7 +110,7 @@ fn look_anew(
     requires { ⌜ slots ≤ 64 ⌝ }
     ensures { λ r. ⌜ Keeps (now (book .entry)) key slots (newLookup (now (book .entry)) base (now (memory .entry)) request) r (now (book .exit)) ⌝ }
 {
-    let registers = words::registers_of(&*book);
+    let registers = book_words::registers_of(&*book);
     let looked = lookup::lookup(registers, base, memory, request);
     keep(book, key, slots, looked)
 }
@@ -133,10 +125,10 @@ fn keep(book: &mut [u64; BOOK_WORDS], key: u64, slots: usize, looked: Looked) ->
     match answer {
         Answer::Refused(number) => refuse(number),
         Answer::Is(outcome) => {
-            let slot = words::find(&*book, 0, slots);
+            let slot = book_words::find(&*book, 0, slots);
             if slot < slots {
                 let block = answer_words::encode(outcome, list);
-                words::put(book, slot, key, block);
+                book_words::put(book, slot, key, block);
                 return Asked {
                     reply: Reply::NewlyKept(outcome),
                     list,
@@ -155,7 +147,7 @@ fn keep(book: &mut [u64; BOOK_WORDS], key: u64, slots: usize, looked: Looked) ->
 pub fn notice(book: &mut [u64; BOOK_WORDS], start: u64, size: u64) -> Said
     ensures { λ r. ⌜ Noticed (now (book .entry)) start size r (now (book .exit)) ⌝ }
 {
-    if well::is_malformed(&*book) {
+    if book_words::well::is_malformed(&*book) {
         return Said::Refused(7);
     }
     if memory_image::ADDRESS_TOP < start {

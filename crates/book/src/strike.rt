@@ -3,9 +3,8 @@
 ghost use mathlib.Core.Path.{_≡_};
 ghost use Prim.Native.Nat.{_<_, min};
 ghost use Rattle.book.specs.Book.{sharedFrom, shares, strike, struckFrom, touched};
-use super::BOOK_WORDS;
-use super::words;
 use answers::Pieces;
+use book_words::BOOK_WORDS;
 use memory_image::Piece;
 
 // Whether a piece and a notice share an address. It computes no sum, so nothing can wrap.
@@ -46,7 +45,7 @@ fn touches(book: &[u64; BOOK_WORDS], i: usize, start: u64, size: u64) -> bool
     if key == 0 {
         return false;
     }
-    let block = words::block(book, i);
+    let block = book_words::block(book, i);
     let list = answer_words::list_of(block);
     any_shares(start, size, list)
 }

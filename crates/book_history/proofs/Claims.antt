@@ -26,9 +26,9 @@ use Rattle.lookup.specs.declared.Answer.{Answer}
 use Rattle.lookup.specs.declared.Answer.the-variants as looked
 use Rattle.lookup.proofs.Claims.{refused-exactly}
 use Rattle.book_history.specs.Claims.{NeverStale, FreshIn, StillGood, NeverMalformed, StrikesExactly, Shared, SharesMeans, LowestEmpty, KeptChangesNothing, FullChangesNothing, RefusedChangesNothing, StartsEmpty, OneOpening, OneAsk, OneNotice, lookedIn, askedAfter}
-use Rattle.book.specs.Layout.{slotsOf, registersOf, baseOf, lengthOf, keyAt, blockAt}
-use Rattle.book.specs.Malformed.{firstFrom, refusal7}
-use Rattle.book.specs.Book.{slotOf, emptySlot, newly, nowHolding, otherExtent, refusedWith, askResult, askBook, newLookup, shares, touched, struckFrom}
+use Rattle.book_words.specs.Layout.{slotsOf, registersOf, baseOf, lengthOf, keyAt, blockAt, otherExtent}
+use Rattle.book_words.specs.Malformed.{firstFrom, refusal7}
+use Rattle.book.specs.Book.{slotOf, emptySlot, newly, nowHolding, refusedWith, askResult, askBook, newLookup, shares, touched, struckFrom}
 use Rattle.book_history.specs.History.{State, Step, run, Clean, Began}
 use Rattle.book.specs.declared.Asked.{Asked}
 use Rattle.book.specs.declared.Reply.the-variants.{Refused, KeptBefore, NewlyKept, NotKept}

@@ -35,9 +35,9 @@ use Rattle.lookup.specs.declared.Looked.{Looked}
 use Rattle.lookup.specs.declared.Answer.{Answer}
 use Rattle.lookup.specs.declared.Answer.the-variants as looked
 use Rattle.lookup.proofs.Claims.{depends-on-list, listed-lies, answers-proper}
-use Rattle.book.specs.Layout.{slotsOf, registersOf, baseOf, lengthOf, keyAt, tab, blockAt, keptAt, openedWith}
+use Rattle.book_words.specs.Layout.{slotsOf, registersOf, baseOf, lengthOf, keyAt, tab, blockAt, keptAt, openedWith}
 use Rattle.book.specs.Book.{shares, sharedFrom, touched, struckFrom, slotOf, emptySlot, nowHolding, newLookup, askBook, openSays, noticeSays, ifDone}
-use Rattle.book.specs.Malformed.{refusal7}
+use Rattle.book_words.specs.Malformed.{refusal7}
 use Rattle.book_history.specs.History.{State, Step, edit, notice, ask, report, edited, noticedAt, stillDirty, step, run, Clean, Began}
 use Rattle.book.specs.declared.Said.{Said}
 use Rattle.book.specs.declared.Said.the-variants as said

@@ -13,7 +13,7 @@ use borrow.Author.Tests.{eqb-true, eqb-false, ltb-true, ltb-false}
 use lib.Dec.{eqb, ltb}
 use lib.ListN.{length, getD, set, length-set}
 use lib.Seq.{getD-set-same, getD-set-other}
-use Rattle.book.specs.Layout.{keyAt, tab, blockAt, copied, keptAt}
+use Rattle.book_words.specs.Layout.{keyAt, tab, blockAt, copied, keptAt}
 
 tab-same : {A : Type 0} (n : ℕ) (f g : ℕ → A) → ((j : ℕ) → j < n → f j ≡ g j) → tab n f ≡ tab n g
 unfolding tab

@@ -12,7 +12,7 @@ use lib.Dec.{eqb}
 use lib.ListN.{length, getD, set, length-set}
 use lib.Seq.{getD-set-same, getD-set-other}
 use Rattle.bit_fields.specs.Choice.{if_then_else_}
-use Rattle.book.specs.Layout.{keyAt, blockAt}
+use Rattle.book_words.specs.Layout.{keyAt, blockAt}
 use Rattle.book.specs.Book.{touched, strike, struckFrom}
 use Rattle.book_history.proofs.KeptLaws.{block-same}
 

@@ -12,8 +12,8 @@ use Rattle.bit_fields.specs.Choice.{if_then_else_}
 use Rattle.memory_image.specs.declared.Piece.{Piece}
 use Rattle.answers.specs.Pieces.{nothing}
 use Rattle.answer_words.specs.AnswerWords.{listOf}
-use Rattle.book.specs.Layout.{slotsOf, keyAt, blockAt, openedWith}
-use Rattle.book.specs.Malformed.{refusal7}
+use Rattle.book_words.specs.Layout.{slotsOf, keyAt, blockAt, openedWith}
+use Rattle.book_words.specs.Malformed.{refusal7}
 use Rattle.book.specs.Book.{emptySlot, askResult, noticeSays, shares, sharedFrom, touched, struckFrom}
 use Rattle.book_history.specs.History.{run}
 use Rattle.book_history.specs.Claims.{StrikesExactly}

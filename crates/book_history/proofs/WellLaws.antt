@@ -24,8 +24,8 @@ use Rattle.registers.specs.Sizes.{refusal1}
 use Rattle.registers.specs.declared.Registers.{Registers}
 use Rattle.memory_image.specs.Extent.{Extent, refusal2}
 use Rattle.answer_words.specs.AnswerWords.{stands}
-use Rattle.book.specs.Layout.{slotsOf, registersOf, extentHeld, keyAt, blockAt, keptAt}
-use Rattle.book.specs.Malformed.{firstFrom, someRequest, slotWell, wellFrom, narrowFrom, registersFit, refusal7}
+use Rattle.book_words.specs.Layout.{slotsOf, registersOf, extentHeld, keyAt, blockAt, keptAt}
+use Rattle.book_words.specs.Malformed.{firstFrom, someRequest, slotWell, wellFrom, narrowFrom, registersFit, refusal7}
 use Rattle.book.specs.Book.{touched, struckFrom}
 use Rattle.book_history.proofs.KeptLaws.{block-same, kept-before, kept-key, kept-key-other, kept-block, kept-block-other}
 use Rattle.book_history.proofs.StruckLaws.{struck-else, struck-key}

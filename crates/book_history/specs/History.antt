@@ -15,7 +15,7 @@ use Rattle.memory_image.specs.Extent.{extentOf}
 use Rattle.memory_image.specs.declared.Piece.{Piece}
 use Rattle.answers.specs.Pieces.{EachPiece}
 use Rattle.answers.specs.declared.Pieces.{Pieces}
-use Rattle.book.specs.Layout.{slotsMost, tab, openedWith}
+use Rattle.book_words.specs.Layout.{slotsMost, tab, openedWith}
 use Rattle.book.specs.Book.{ifDone, openSays, noticeSays, struckFrom, askBook, newLookup}
 use Rattle.book.specs.declared.Said.{Said}
 use Rattle.book.specs.declared.Said.the-variants.{Done, Refused}

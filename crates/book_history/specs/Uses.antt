@@ -17,8 +17,8 @@ use Rattle.ids.specs.declared.Request.{Request}
 use Rattle.registers.specs.declared.Registers.{Registers}
 use Rattle.memory_image.specs.Extent.{Extent, addressTop}
 use Rattle.memory_image.specs.declared.Piece.{Piece}
-use Rattle.book.specs.Layout.{slotsMost, bookWords, slotsOf, keyAt, openedWith}
-use Rattle.book.specs.Book.{emptySlot, otherExtent, refusedWith, shares, touched, struckFrom, noticeSays}
+use Rattle.book_words.specs.Layout.{slotsMost, bookWords, slotsOf, keyAt, openedWith, otherExtent}
+use Rattle.book.specs.Book.{emptySlot, refusedWith, shares, touched, struckFrom, noticeSays}
 use Rattle.book.specs.declared.Said.the-variants as said
 use Rattle.book_history.specs.History.{State, Step, run, Began}
 use Rattle.book_history.specs.Claims.{askedAfter}

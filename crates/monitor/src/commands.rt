@@ -2,7 +2,7 @@
 use crate::edits;
 use crate::state::State;
 use crate::state::front;
-use book::BOOK_WORDS;
+use book_words::BOOK_WORDS;
 use ids::Request;
 use lookup::Answer;
 use registers::Registers;

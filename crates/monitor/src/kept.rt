@@ -3,9 +3,9 @@ use crate::state::State;
 use crate::state::front;
 use answers::Outcome;
 use answers::Pieces;
-use book::BOOK_WORDS;
 use book::Reply;
 use book::Said;
+use book_words::BOOK_WORDS;
 use ids::Request;
 use registers::Registers;
 use report::Written;
@@ -28,7 +28,7 @@ impl State {
     ) -> Self {
         let lent = front(memory, self.length);
         let asked = book::ask(&mut *book, self.base, lent, request);
-        let registers = book::words::registers_of(&*book);
+        let registers = book_words::registers_of(&*book);
         let reply = asked.reply;
         let list = asked.list;
         match reply {

@@ -1,5 +1,5 @@
 // Where a run stands, from line to line. Start at `finish_line`.
-use book::BOOK_WORDS;
+use book_words::BOOK_WORDS;
 use libc::STDOUT_FILENO;
 use registers::Registers;
 

@@ -10,7 +10,7 @@ use borrow.Author.Tests.{ltb-false}
 use lib.Dec.{ltb}
 use lib.ListN.{getD, length}
 use Rattle.bit_fields.specs.Choice.{if_then_else_}
-use Rattle.book.specs.Malformed.{refusal7}
+use Rattle.book_words.specs.Malformed.{refusal7}
 use Rattle.book_history.specs.History.{run}
 use Rattle.book_history.proofs.Claims.{never-malformed}
 use Rattle.placed.specs.Placed.{placed}

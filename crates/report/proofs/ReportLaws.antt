@@ -16,8 +16,8 @@ use Rattle.ids.specs.declared.Unpacked.the-variants as request
 use Rattle.registers.specs.declared.Registers.{Registers}
 use Rattle.answers.specs.declared.Outcome.{Outcome}
 use Rattle.answer_words.specs.AnswerWords.{outcomeOf}
-use Rattle.book.specs.Layout.{slotsOf, registersOf, keyAt, blockAt}
-use Rattle.book.specs.Malformed.{refusal7}
+use Rattle.book_words.specs.Layout.{slotsOf, registersOf, keyAt, blockAt}
+use Rattle.book_words.specs.Malformed.{refusal7}
 use Rattle.placed.specs.Placed.{placed}
 use Rattle.placed.proofs.PlacedLaws.{placed-length, placed-then}
 use Rattle.report_cells.specs.Cells.{lineText}

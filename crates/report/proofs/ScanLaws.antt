@@ -1,5 +1,4 @@
 -- One step of each text that is defined by what is left of it, under the test that the code makes; and lengths.
---     left-none, left-one                        what is left at the end of a scan, and before it
 --     from-end, from-step, from-length           the bytes of a cell
 --     cells-end, cells-step                      the cells of a line
 --     lines-end, lines-step                      the lines of the slots
@@ -13,7 +12,8 @@ use native.Mathlib.Nat.{sub-zero, zero-add}
 use mathlib.Core.Path.{_≡_, refl, sym, ap, _∙_}
 use mathlib.Core.List.{List, [], _∷_, _++_}
 use lib.ListN.{getD, length, length-append}
-use Rattle.book.specs.Layout.{slotsOf}
+use Rattle.number_laws.proofs.Scans.{left-none, left-one}
+use Rattle.book_words.specs.Layout.{slotsOf}
 use Rattle.report_cells.specs.Text.{Spells, from}
 use Rattle.report_cells.specs.Cells.{cellText, cellsFrom, columnsOf, endingOf, lineText}
 use Rattle.report_cells.specs.declared.Cell.{Cell}
@@ -21,12 +21,6 @@ use Rattle.report_cells.specs.declared.Entry.{Entry}
 use Rattle.report_cells.specs.declared.Line.{Line}
 use Rattle.report_cells.specs.declared.Line.the-variants.{Nothing, Header, Kept}
 use Rattle.report.specs.Report.{lineAt, linesFrom, reportText}
-
-pub left-none : (n i : ℕ) → n ≤ i → n - i ≡ 0
-left-none n i past = omega arith
-
-pub left-one : (n i : ℕ) → i < n → n - i ≡ suc (n - (i + 1))
-left-one n i more = omega arith
 
 module _ (l : List ℕ) (n i : ℕ) where
   pub from-end : n ≤ i → from l (n - i) i ≡ []

@@ -13,8 +13,8 @@ use Rattle.ids.specs.Packing.{unpacked}
 use Rattle.ids.specs.declared.Unpacked.{Unpacked}
 use Rattle.ids.specs.declared.Unpacked.the-variants as request
 use Rattle.answer_words.specs.AnswerWords.{outcomeOf}
-use Rattle.book.specs.Layout.{slotsOf, registersOf, keyAt, blockAt}
-use Rattle.book.specs.Malformed.{refusal7}
+use Rattle.book_words.specs.Layout.{slotsOf, registersOf, keyAt, blockAt}
+use Rattle.book_words.specs.Malformed.{refusal7}
 use Rattle.placed.specs.Placed.{placed}
 use Rattle.report_cells.specs.Cells.{lineText}
 use Rattle.report_cells.specs.declared.Line.{Line}

@@ -5,7 +5,7 @@ ghost use Prim.Native.Nat.{_+_, _≤_, _<_};
 ghost use lib.ListN.{getD, length};
 ghost use Rattle.report_cells.specs.Cells.{lineText};
 ghost use Rattle.report.specs.Report.{Put, Reported, lineAt, linesFrom, reportText};
-use book::BOOK_WORDS;
+use book_words::BOOK_WORDS;
 use ids::Request;
 use ids::Unpacked;
 use report_cells::Entry;
@@ -23,7 +23,7 @@ pub enum Written {
 pub fn report(book: &[u64; BOOK_WORDS], out: &mut [u8]) -> Written
     ensures { λ r. ⌜ Reported (now (book .entry)) (now (out .entry)) r (now (out .exit)) ⌝ }
 {
-    if book::well::is_malformed(book) {
+    if book_words::well::is_malformed(book) {
         return Written::Refused(7);
     }
     let size = text_length(book);
@@ -45,8 +45,8 @@ fn line_at(book: &[u64; BOOK_WORDS], i: usize) -> Line
         return Line::Nothing;
     }
     let unpacked = Request::unpack(key - 1);
-    let registers = book::words::registers_of(book);
-    let block = book::words::block(book, i);
+    let registers = book_words::registers_of(book);
+    let block = book_words::block(book, i);
     let outcome = answer_words::outcome_of(block);
     match unpacked {
         Unpacked::Is(request) => Line::Kept(Entry {

@@ -20,7 +20,7 @@ use Rattle.context_table.specs.ContextTable.{contextRule, leafBits, twoLevelRul
 use Rattle.context_entry.specs.ContextEntry.{cdRule, effectiveIps}
 use Rattle.lookup.specs.Lookup.{lookupRule, fromSte, fromEntry, fromCd, ruled, answered, lookedUp}
 use Rattle.lookup.proofs.Claims.{refused-exactly}
-use Rattle.book.specs.Layout.{tab}
+use Rattle.book_words.specs.Layout.{tab}
 use Rattle.book.specs.Book.{shares}
 use Rattle.shots.specs.Shots.{Shot, shots, byteOf, whole, clip, given, expected}
 use Rattle.shots.specs.Claims.{EachShot, Right, AllShots, RealShots, SharedSte}

@@ -33,8 +33,8 @@ use Rattle.context_entry.specs.ContextEntry.{cdRule, effectiveIps}
 use Rattle.lookup.specs.Lookup.{lookupRule, fromSte, fromEntry, fromCd, answered, lookedUp}
 use Rattle.lookup.specs.declared.Looked.{Looked}
 use Rattle.lookup.specs.declared.Answer.the-variants as looked
-use Rattle.book.specs.Layout.{tab, copied, slotsOf, keyAt, registersOf, blockAt, openedWith}
-use Rattle.book.specs.Malformed.{firstFrom, slotWell, wellFrom, narrowFrom, refusal7}
+use Rattle.book_words.specs.Layout.{tab, copied, slotsOf, keyAt, registersOf, blockAt, openedWith}
+use Rattle.book_words.specs.Malformed.{firstFrom, slotWell, wellFrom, narrowFrom, refusal7}
 use Rattle.book.specs.Book.{openSays, askBook, askResult, emptySlot, slotOf, ifDone, newLookup, shares, sharedFrom, touched, strike, struckFrom, noticeSays}
 use Rattle.book.specs.declared.Reply.the-variants.{Refused}
 use Rattle.book_history.specs.History.{Began, Clean, noticedAt, step, run as ran, notice, edit}
@@ -135,7 +135,7 @@ module _ (a : 188 < 2 ^ 32) (b : 256 < 2 ^ 32) where
   unfolding held1 held2 openedWith registersOf
   two-words =
       ap (λ (ws : List ℕ). askBook ws 0 (length benchMemory) (of 256 Without) (newLookup ws 0 benchMemory (of 256 Without)))
-          (asked (openedWith plain whole 2) (of 188 Without) says-188 refl looked-188)
+      (asked (openedWith plain whole 2) (of 188 Without) says-188 refl looked-188)
       ∙ asked held1 (of 256 Without) (says (Bypass 0x2f00)) (computed .plain1) looked-256
 
   -- two keys after a notice, from those that were computed
@@ -254,13 +254,13 @@ module _ (b : 256 < 2 ^ 32) where
   edges-leave-it other =
       let is = alone-words other in
       still-good plain 0 (opened 2) began (atEdges b other) 0 (omega arith)
-          (λ none. let k : key 256 ≡ 0 = sym (computed .key-alone) ∙ ap (λ (ws : List ℕ). keyAt ws 0) (sym is) ∙ none in omega arith)
-          (subst (λ (l : Pieces). Clean (ran 0 (opened 2) (atEdges b other) .dirty) l)
-              (sym (ap (λ (ws : List ℕ). listOf (blockAt ws 0)) is ∙ computed .list-alone))
-              (two-clean (ran 0 (opened 2) (atEdges b other) .dirty) (piece 0x8008 8) (piece 0x2f00 64)
-                  (λ a from to. beside a (λ e. omega arith) (λ e. omega arith) (λ e. omega arith) (λ e. omega arith))
-                  (λ a from to. beside a (λ e. omega arith) (λ e. omega arith) (λ e. omega arith) (λ e. omega arith))))
-          (of 256 Without) (ap (λ (ws : List ℕ). unpacked (keyAt ws 0 - 1)) is ∙ computed .is-alone)
+      (λ none. let k : key 256 ≡ 0 = sym (computed .key-alone) ∙ ap (λ (ws : List ℕ). keyAt ws 0) (sym is) ∙ none in omega arith)
+      (subst (λ (l : Pieces). Clean (ran 0 (opened 2) (atEdges b other) .dirty) l)
+      (sym (ap (λ (ws : List ℕ). listOf (blockAt ws 0)) is ∙ computed .list-alone))
+      (two-clean (ran 0 (opened 2) (atEdges b other) .dirty) (piece 0x8008 8) (piece 0x2f00 64)
+      (λ a from to. beside a (λ e. omega arith) (λ e. omega arith) (λ e. omega arith) (λ e. omega arith))
+      (λ a from to. beside a (λ e. omega arith) (λ e. omega arith) (λ e. omega arith) (λ e. omega arith))))
+      (of 256 Without) (ap (λ (ws : List ℕ). unpacked (keyAt ws 0 - 1)) is ∙ computed .is-alone)
       ∙ ap (λ (ws : List ℕ). record { answer = looked.Is (outcomeOf (blockAt ws 0)); list = listOf (blockAt ws 0) }) is
       ∙ computed .said-alone
 
@@ -288,6 +288,6 @@ unfolding alone sampled openedWith registersOf
 sample-report b d =
     ap reportText
     (ap (λ (ws : List ℕ). askBook ws 0 (length benchMemory) (of 260 Without) (newLookup ws 0 benchMemory (of 260 Without)))
-        (asked (openedWith plain whole 2) (of 256 Without) (says (Bypass 0x2f00)) refl looked-256)
+    (asked (openedWith plain whole 2) (of 256 Without) (says (Bypass 0x2f00)) refl looked-256)
     ∙ asked alone (of 260 Without) says-260 plain-alone looked-260)
     ∙ sample-text

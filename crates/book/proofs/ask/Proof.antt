@@ -2,7 +2,7 @@
 -- Assumes: nothing.
 use borrow.Author.Needs.{needs}
 use Rattle.book.proofs.AskLaws.{ask-malformed, ask-other, ask-third, ask-held, ask-new, key-fits}
-use Rattle.book.proofs.MalformedLaws.{few-slots, slot-below}
+use Rattle.book_words.proofs.MalformedLaws.{few-slots, slot-below}
 use Rattle.book.proofs.ask.Statement.{statement}
 use Rattle.book.proofs.ask.Tie as tie
 

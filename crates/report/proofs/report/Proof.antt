@@ -1,7 +1,7 @@
 -- Proof of `report::report`.
 -- Assumes: nothing.
 use borrow.Author.Needs.{needs}
-use Rattle.book.proofs.MalformedLaws.{few-slots}
+use Rattle.book_words.proofs.MalformedLaws.{few-slots}
 use Rattle.report.proofs.ReportLaws.{report-malformed, report-short, header-room, lines-room, report-whole}
 use Rattle.report.proofs.report.Statement.{statement}
 use Rattle.report.proofs.report.Tie as tie

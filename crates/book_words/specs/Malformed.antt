@@ -1,0 +1,68 @@
+-- Refusal 7, item by item (01, "When the bench says no"; design: "words that stand for no value of a field").
+--     refusal7       the whole row: start here
+--     slotWell       what is asked of one slot
+--     firstFrom      the lowest slot with a key
+-- Assumes: nothing.
+use Prim.Native.Nat.{ℕ, zero, suc, _+_, _-_, _^_}
+use mathlib.Core.Bool.{Bool, true, false, not, _&&_, _||_}
+use mathlib.Core.List.{List}
+use lib.Dec.{eqb, leb, ltb}
+use lib.ListN.{getD}
+use Rattle.bit_fields.specs.Choice.{if_then_else_}
+use Rattle.bit_fields.specs.Bits.{inBits}
+use Rattle.ids.specs.Packing.{unpacked}
+use Rattle.ids.specs.declared.Unpacked.{Unpacked}
+use Rattle.ids.specs.declared.Unpacked.the-variants.{Is, Nothing}
+use Rattle.registers.specs.Sizes.{refusal1}
+use Rattle.memory_image.specs.Extent.{refusal2}
+use Rattle.answer_words.specs.AnswerWords.{stands}
+use Rattle.book_words.specs.Layout.{slotsMost, slotsOf, registersOf, extentHeld, keyAt, blockAt}
+
+-- the lowest slot from i, among the next m, whose key is x; else i + m
+unfoldable pub firstFrom : List ℕ → ℕ → ℕ → ℕ → ℕ
+firstFrom ws x zero i = i
+firstFrom ws x (suc m) i =
+    if eqb (keyAt ws i) x then i
+    else firstFrom ws x m (i + 1)
+
+-- a word stands for a request
+abbrev pub someRequest : Unpacked → Bool
+someRequest (Is request) = true
+someRequest Nothing = false
+
+-- a slot is empty; or it isn't past the number of slots, its key stands for a request that doesn't fail 3, no slot before it has the same one,
+-- and its words stand for an answer: at most four pieces, each ending at or below 2^52, an event or unserved number that is listed
+unfoldable pub slotWell : List ℕ → ℕ → Bool
+slotWell ws i =
+    if eqb (keyAt ws i) 0 then true
+    else if leb (slotsOf ws) i then false
+    else if not (someRequest (unpacked (keyAt ws i - 1))) then false
+    else if not (eqb (firstFrom ws (keyAt ws i) slotsMost 0) i) then false
+    else stands (blockAt ws i)
+
+unfoldable pub wellFrom : List ℕ → ℕ → ℕ → Bool
+wellFrom ws zero i = true
+wellFrom ws (suc m) i =
+    if slotWell ws i then wellFrom ws m (i + 1)
+    else false
+
+-- m words from i on stand for values of 32 bits
+unfoldable pub narrowFrom : List ℕ → ℕ → ℕ → Bool
+narrowFrom ws zero i = true
+narrowFrom ws (suc m) i =
+    if inBits (getD ws i 0) 32 then narrowFrom ws m (i + 1)
+    else false
+
+-- those of the seven registers of 32 bits do
+abbrev pub registersFit : List ℕ → Bool
+registersFit ws = narrowFrom ws 7 1
+
+-- slots not 1 to 64; a register's word that stands for none; registers or memory extent that fail 1 or 2; a slot that isn't well
+unfoldable pub refusal7 : List ℕ → Bool
+refusal7 ws =
+    if eqb (slotsOf ws) 0 then true
+    else if ltb slotsMost (slotsOf ws) then true
+    else if not (registersFit ws) then true
+    else if refusal1 (registersOf ws) then true
+    else if refusal2 (extentHeld ws) then true
+    else not (wellFrom ws slotsMost 0)
