@@ -1,0 +1,3 @@
+-- Laws of specs/.
+pub mod HandedLaws
+pub mod CallsLaws
