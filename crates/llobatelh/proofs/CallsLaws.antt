@@ -3,12 +3,13 @@
 --     part-at, part-none                             the STE's place
 --     said-refused, said-done, opened-is, noticed-is opening and a notice
 --     ask-refused, ask-kept, ask-newly, ask-not      an ask
+--     report-refused, report-written                 the report
 --     recorded-so, recorded-not                      whether an event is recorded
 -- Assumes: nothing.
 use Prim.Native.Nat.{ℕ, _-_, _^_}
 use mathlib.Core.Path.{_≡_, refl, ap, _∙_}
 use mathlib.Core.Bool.{Bool, true, false}
-use mathlib.Core.List.{List}
+use mathlib.Core.List.{List, [], _∷_}
 use Rattle.ids.specs.declared.Request.{Request}
 use Rattle.registers.specs.declared.Registers.{Registers}
 use Rattle.memory_image.specs.Extent.{Extent}
@@ -27,6 +28,9 @@ use Rattle.book.specs.declared.Asked.{Asked}
 use Rattle.book.specs.declared.Reply.the-variants as reply
 use Rattle.book.specs.declared.Said.{Said}
 use Rattle.book.specs.declared.Said.the-variants as said
+use Rattle.report.specs.Report.{Reported}
+use Rattle.report.specs.declared.Written.{Written}
+use Rattle.report.specs.declared.Written.the-variants as written
 use Rattle.llobatelh.specs.Calls.{
   answerSays,
   answerPut,
@@ -40,6 +44,9 @@ use Rattle.llobatelh.specs.Calls.{
   askPut,
   asked,
   AsksBook,
+  writtenSays,
+  lengthPut,
+  ReportsBook,
   recordedSays,
 }
 
@@ -126,6 +133,18 @@ module _ {q q′ : Request} (is-q : q ≡ q′) {ws : List ℕ} {base : ℕ} {me
           words = put .put ∙ rw (← asks′ .result) (simp so);
           book = asks′ .book;
         }
+
+-- the report
+module _ {ws before : List ℕ} (length-before : List ℕ) {says : Written} {after : List ℕ} (reported : Reported ws before says after) where
+  pub report-refused : {n : ℕ} → says ≡ written.Refused n → ReportsBook ws before length-before n after length-before
+  unfolding writtenSays lengthPut
+  report-refused so =
+      record { result = rw (← reported .result, so); text = reported .buffer; size = rw (← reported .result, so) }
+
+  pub report-written : {n : ℕ} → says ≡ written.Length n → ReportsBook ws before length-before 0 after (n ∷ [])
+  unfolding writtenSays lengthPut
+  report-written so =
+      record { result = rw (← reported .result, so); text = reported .buffer; size = rw (← reported .result, so) }
 
 module _ {r r′ : Registers} (is-r : r ≡ r′) (event : ℕ) {so : Bool} (is : so ≡ recorded r event) where
   pub recorded-so : so ≡ true → 1 ≡ recordedSays r′ event

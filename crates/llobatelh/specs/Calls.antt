@@ -1,13 +1,15 @@
 -- What each call of the C interface promises: its number, and every lent byte and word at exit.
---     LooksUp, partSays, OpensBook, AsksBook, NoticesBook, recordedSays    one for each call: start here
---     answerSays, askSays, saidSays     a call's number: what it says of an answer, or the refusal's number
---     answerPut, askPut                 the words that an answer is put into; as they were where there is none
+--     LooksUp, partSays, OpensBook, AsksBook, NoticesBook, ReportsBook, recordedSays
+--                                       one for each call: start here
+--     answerSays, askSays, saidSays, writtenSays
+--                                       a call's number: what it says of an answer, or the refusal's number
+--     answerPut, askPut, lengthPut      the words that an answer is put into; as they were where there is none
 -- A refused call leaves every word.
 -- Ours: 100, 101 and 102 for an ask's answer, which are no refusal's number; 2^64 - 1 where there is no part.
 -- Assumes: nothing.
 use Prim.Native.Nat.{ℕ, _-_, _^_}
 use mathlib.Core.Path.{_≡_}
-use mathlib.Core.List.{List}
+use mathlib.Core.List.{List, [], _∷_}
 use lib.ListN.{length}
 use Rattle.bit_fields.specs.Choice.{if_then_else_}
 use Rattle.ids.specs.declared.Request.{Request}
@@ -29,6 +31,10 @@ use Rattle.book.specs.declared.Reply.{Reply}
 use Rattle.book.specs.declared.Reply.the-variants as reply
 use Rattle.book.specs.declared.Said.{Said}
 use Rattle.book.specs.declared.Said.the-variants as said
+use Rattle.placed.specs.Placed.{placed}
+use Rattle.report.specs.Report.{reportSays, reportText, ifWritten}
+use Rattle.report.specs.declared.Written.{Written}
+use Rattle.report.specs.declared.Written.the-variants as written
 
 -- llobatelh_lookup
 unfoldable pub answerSays : Answer → ℕ
@@ -91,6 +97,20 @@ pub record AsksBook (ws : List ℕ) (base : ℕ) (memory : List ℕ) (request : 
   pub result : says ≡ askSays (asked ws base memory request .reply)
   pub words : after ≡ askPut (asked ws base memory request .reply) (asked ws base memory request .list) before
   pub book : ws′ ≡ askBook ws base (length memory) request (newLookup ws base memory request)
+
+-- llobatelh_report: the text's length goes into the one word of `length`
+unfoldable pub writtenSays : Written → ℕ
+writtenSays (written.Refused n) = n
+writtenSays (written.Length n) = 0
+
+unfoldable pub lengthPut : Written → List ℕ → List ℕ
+lengthPut (written.Refused n) before = before
+lengthPut (written.Length n) before = n ∷ []
+
+pub record ReportsBook (ws before length-before : List ℕ) (says : ℕ) (after length-after : List ℕ) : Type 0 where
+  pub result : says ≡ writtenSays (reportSays ws (length before))
+  pub text : after ≡ ifWritten (reportSays ws (length before)) before (placed before 0 (reportText ws))
+  pub size : length-after ≡ lengthPut (reportSays ws (length before)) length-before
 
 -- llobatelh_is_recorded
 unfoldable pub recordedSays : Registers → ℕ → ℕ

@@ -1,9 +1,9 @@
--- Proof of `llobatelh::llobatelh_open`.
+-- Proof of `llobatelh::book_calls::llobatelh_open`.
 -- Assumes: nothing.
 use borrow.Author.Needs.{needs}
 use Rattle.llobatelh.proofs.CallsLaws.{opened-is}
-use Rattle.llobatelh.proofs.llobatelh_open.Statement.{statement}
-use Rattle.llobatelh.proofs.llobatelh_open.Tie as tie
+use Rattle.llobatelh.proofs.book_calls.llobatelh_open.Statement.{statement}
+use Rattle.llobatelh.proofs.book_calls.llobatelh_open.Tie as tie
 
 registers-requires : tie.Need-registers-requires
 registers-requires c κs = search needs

@@ -1,9 +1,9 @@
--- Proof of `llobatelh::llobatelh_ask`.
+-- Proof of `llobatelh::book_calls::llobatelh_ask`.
 -- Assumes: nothing.
 use borrow.Author.Needs.{needs}
 use Rattle.llobatelh.proofs.CallsLaws.{ask-refused, ask-kept, ask-newly, ask-not}
-use Rattle.llobatelh.proofs.llobatelh_ask.Statement.{statement}
-use Rattle.llobatelh.proofs.llobatelh_ask.Tie as tie
+use Rattle.llobatelh.proofs.book_calls.llobatelh_ask.Statement.{statement}
+use Rattle.llobatelh.proofs.book_calls.llobatelh_ask.Tie as tie
 
 request-requires : tie.Need-request-requires
 request-requires c κs = search needs

@@ -1,9 +1,9 @@
--- Proof of `llobatelh::llobatelh_notice`.
+-- Proof of `llobatelh::book_calls::llobatelh_notice`.
 -- Assumes: nothing.
 use borrow.Author.Needs.{needs}
 use Rattle.llobatelh.proofs.CallsLaws.{noticed-is}
-use Rattle.llobatelh.proofs.llobatelh_notice.Statement.{statement}
-use Rattle.llobatelh.proofs.llobatelh_notice.Tie as tie
+use Rattle.llobatelh.proofs.book_calls.llobatelh_notice.Statement.{statement}
+use Rattle.llobatelh.proofs.book_calls.llobatelh_notice.Tie as tie
 
 notice-requires : tie.Need-notice-requires
 notice-requires c κs = search needs

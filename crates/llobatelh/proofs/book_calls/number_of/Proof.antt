@@ -1,9 +1,9 @@
--- Proof of `llobatelh::number_of`.
+-- Proof of `llobatelh::book_calls::number_of`.
 -- Assumes: nothing.
 use borrow.Author.Needs.{needs}
 use Rattle.llobatelh.proofs.CallsLaws.{said-refused, said-done}
-use Rattle.llobatelh.proofs.number_of.Statement.{statement}
-use Rattle.llobatelh.proofs.number_of.Tie as tie
+use Rattle.llobatelh.proofs.book_calls.number_of.Statement.{statement}
+use Rattle.llobatelh.proofs.book_calls.number_of.Tie as tie
 
 enum-known-said : tie.Need-enum-known-said
 enum-known-said c = search needs
