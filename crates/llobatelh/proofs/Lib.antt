@@ -1,3 +1,4 @@
 -- Laws of specs/.
 pub mod HandedLaws
 pub mod CallsLaws
+pub mod Claims
