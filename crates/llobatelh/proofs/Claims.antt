@@ -5,7 +5,7 @@ use native.Mathlib.Omega.{arith}
 use mathlib.Core.Path.{_≡_, refl, sym, ap, _∙_}
 use mathlib.Core.Bool.{Bool, true, false, not, _&&_}
 use mathlib.Core.List.{List}
-use borrow.Author.Tests.{eqb-true}
+use borrow.Author.Tests.{eqb-true, ltb-true}
 use mathlib.Core.Logic.{_⊎_, inl, inr}
 use lib.Dec.{eqb, ltb}
 use lib.ListN.{length, take, drop}
@@ -32,8 +32,11 @@ use Rattle.book.specs.Malformed.{refusal7}
 use Rattle.book.specs.Book.{slotOf, emptySlot, askResult, otherExtent, newly, newLookup, refusedWith as refusedAsk}
 use Rattle.book.specs.declared.Reply.the-variants as reply
 use Rattle.book.proofs.WellLaws.{well-to}
+use Rattle.report.specs.Report.{reportSays, reportText}
+use Rattle.report.specs.declared.Written.the-variants as written
 use Rattle.llobatelh.specs.Calls.{noPart, partSays, asked}
-use Rattle.llobatelh.specs.Claims.{PartLies, PartIsThatVery, LookupNumbers, AskNumbers}
+use Rattle.llobatelh.specs.Claims.{PartLies, PartIsThatVery, LookupNumbers, AskNumbers, ReportFits}
+use Rattle.llobatelh.proofs.ReportLengthLaws.{report-short}
 
 pub part-lies : PartLies
 unfolding partSays
@@ -123,3 +126,18 @@ ask-numbers ws base memory request n is =
         let known = rw (new-answered ws base memory request a b′ c′) at is in
         let z : _≡_ {A = ℕ} 0 1 = cc in
         absurd (omega arith)
+
+pub report-fits : ReportFits
+unfolding reportSays
+report-fits ws room enough is = go (refusal7 ws) refl (ltb room (length (reportText ws))) refl is
+  where
+    go :
+        (a : Bool) → refusal7 ws ≡ a → (b : Bool) → ltb room (length (reportText ws)) ≡ b
+        → (if a then written.Refused 7 else if b then written.Refused 8 else written.Length (length (reportText ws))) ≡ written.Refused 8
+        → ⊥
+    go true a b b′ is = let same : _≡_ {A = ℕ} 7 8 = cc in omega arith
+    go false a true b is =
+        let short = report-short ws (well-to ws a .few) in
+        let long = ltb-true room (length (reportText ws)) b in
+        omega arith
+    go false a false b is = let z : _≡_ {A = ℕ} 0 1 = cc in omega arith

@@ -3,6 +3,7 @@
 --     PartIsThatVery    it is where the part starts that `lookup::ste_part` hands back, and these are its bytes
 --     LookupNumbers     a lookup is refused with 1, 2 or 3, so that 0 says that it is answered
 --     AskNumbers        an ask is refused with 7, 6 or 3, so that 100, 101 and 102 say that it is answered
+--     ReportFits        a report is never refused with 8 where its buffer has 2,084 bytes
 -- Assumes: nothing.
 use Prim.Native.Nat.{ℕ, _+_, _≤_}
 use mathlib.Core.Path.{_≡_}
@@ -17,6 +18,8 @@ use Rattle.lookup.specs.Lookup.{lookedUp}
 use Rattle.lookup.specs.Part.{SteHanded, steAt}
 use Rattle.lookup.specs.declared.Answer.the-variants as answer
 use Rattle.book.specs.declared.Reply.the-variants as reply
+use Rattle.report.specs.Report.{reportSays}
+use Rattle.report.specs.declared.Written.the-variants as written
 use Rattle.llobatelh.specs.Calls.{noPart, partSays, asked}
 
 abbrev pub PartLies : Type 0
@@ -39,3 +42,9 @@ abbrev pub AskNumbers : Type 0
 AskNumbers =
     (ws : List ℕ) (base : ℕ) (memory : List ℕ) (request : Request) (n : ℕ)
     → asked ws base memory request .reply ≡ reply.Refused n → (n ≡ 7) ⊎ ((n ≡ 6) ⊎ (n ≡ 3))
+
+abbrev pub reportMost : ℕ
+reportMost = 2084
+
+abbrev pub ReportFits : Type 0
+ReportFits = (ws : List ℕ) (room : ℕ) → reportMost ≤ room → reportSays ws room ≡ written.Refused 8 → ⊥
