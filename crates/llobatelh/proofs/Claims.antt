@@ -31,7 +31,7 @@ use Rattle.book.specs.Layout.{slotsOf, blockAt, baseOf, lengthOf, extentHeld, r
 use Rattle.book.specs.Malformed.{refusal7}
 use Rattle.book.specs.Book.{slotOf, emptySlot, askResult, otherExtent, newly, newLookup, refusedWith as refusedAsk}
 use Rattle.book.specs.declared.Reply.the-variants as reply
-use Rattle.book.proofs.WellLaws.{well-to}
+use Rattle.book_history.proofs.WellLaws.{well-to}
 use Rattle.report.specs.Report.{reportSays, reportText}
 use Rattle.report.specs.declared.Written.the-variants as written
 use Rattle.llobatelh.specs.Calls.{noPart, partSays, asked}
