@@ -29,13 +29,32 @@ use Rattle.lookup.proofs.PartLaws.{ste-inside}
 use Rattle.answer_words.specs.AnswerWords.{outcomeOf, listOf}
 use Rattle.book.specs.Layout.{slotsOf, blockAt, baseOf, lengthOf, extentHeld, registersOf}
 use Rattle.book.specs.Malformed.{refusal7}
-use Rattle.book.specs.Book.{slotOf, emptySlot, askResult, otherExtent, newly, newLookup, refusedWith as refusedAsk}
+use Rattle.book.specs.Book.{
+  slotOf,
+  emptySlot,
+  askResult,
+  otherExtent,
+  newly,
+  newLookup,
+  refusedWith as refusedAsk,
+}
 use Rattle.book.specs.declared.Reply.the-variants as reply
 use Rattle.book_history.proofs.WellLaws.{well-to}
 use Rattle.report.specs.Report.{reportSays, reportText}
 use Rattle.report.specs.declared.Written.the-variants as written
 use Rattle.llobatelh.specs.Calls.{noPart, partSays, asked}
-use Rattle.llobatelh.specs.Claims.{PartLies, PartIsThatVery, LookupNumbers, AskNumbers, ReportFits}
+use Rattle.llobatelh.specs.Claims.{
+  PartLies,
+  PartIsThatVery,
+  LookupNumbers,
+  AskNumbers,
+  ReportFits,
+  OneLookup,
+  OneOpening,
+  OneAsk,
+  OneNotice,
+  OneReport,
+}
 use Rattle.llobatelh.proofs.ReportLengthLaws.{report-short}
 
 pub part-lies : PartLies
@@ -141,3 +160,21 @@ report-fits ws room enough is = go (refusal7 ws) refl (ltb room (length (reportT
         let long = ltb-true room (length (reportText ws)) b in
         omega arith
     go false a false b is = let z : _≡_ {A = ℕ} 0 1 = cc in omega arith
+
+-- each promise is equations
+pub one-lookup : OneLookup
+one-lookup looked before x y after other a b = (a .result ∙ sym (b .result), a .words ∙ sym (b .words))
+
+pub one-opening : OneOpening
+one-opening r e slots before x y after other a b = (a .result ∙ sym (b .result), a .book ∙ sym (b .book))
+
+pub one-ask : OneAsk
+one-ask ws base memory request before x y after other words others a b =
+    (a .result ∙ sym (b .result), a .book ∙ sym (b .book), a .words ∙ sym (b .words))
+
+pub one-notice : OneNotice
+one-notice ws start size x y after other a b = (a .result ∙ sym (b .result), a .book ∙ sym (b .book))
+
+pub one-report : OneReport
+one-report ws before length-before x y after other size sizes a b =
+    (a .result ∙ sym (b .result), a .text ∙ sym (b .text), a .size ∙ sym (b .size))

@@ -17,7 +17,14 @@ use Rattle.ids.specs.declared.Unpacked.the-variants as request
 use Rattle.registers.specs.declared.Registers.{Registers}
 use Rattle.answers.specs.Outcome.{recorded}
 use Rattle.answers.specs.declared.Outcome.{Outcome}
-use Rattle.answers.specs.declared.Outcome.the-variants.{Translate, Bypass, BypassGlobal, Abort, Quiet, Unserved}
+use Rattle.answers.specs.declared.Outcome.the-variants.{
+  Translate,
+  Bypass,
+  BypassGlobal,
+  Abort,
+  Quiet,
+  Unserved,
+}
 use Rattle.book.specs.Layout.{slotsOf, keyAt}
 use Rattle.report_cells.specs.Text.{bytes, digits, decimalText}
 use Rattle.report_cells.specs.Cells.{
