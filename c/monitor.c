@@ -4,6 +4,9 @@
  *
  * It reads a script on standard input and writes what it finds to standard output, line by line as the proved monitor
  * does. The first line that is wrong ends the run. No memory is asked for: all that a run holds is `bench` and the buffers.
+ *
+ * c/build builds it for the gate. On an Arm machine with a compiler of its own, after ./archive:
+ *     cc -std=c99 -Iinclude c/monitor.c c/io.c target/archive/aarch64/libllobatelh.a
  */
 #include "io.h"
 #include "llobatelh.h"

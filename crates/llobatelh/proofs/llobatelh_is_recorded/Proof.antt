@@ -1,4 +1,4 @@
--- Proof of `llobatelh::llobatelh_is_recorded`.
+-- Proof of `llobatelh::llobatelh_is_recorded`: recorded, or not.
 -- Assumes: nothing.
 use borrow.Author.Needs.{needs}
 use Rattle.llobatelh.proofs.CallsLaws.{recorded-so, recorded-not}

@@ -1,4 +1,4 @@
--- Proof of `llobatelh::llobatelh_lookup`.
+-- Proof of `llobatelh::llobatelh_lookup`: refused, or answered.
 -- Assumes: nothing.
 use borrow.Author.Needs.{needs}
 use Rattle.llobatelh.proofs.CallsLaws.{looked-refused, looked-up}

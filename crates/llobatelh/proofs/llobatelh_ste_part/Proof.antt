@@ -1,4 +1,4 @@
--- Proof of `llobatelh::llobatelh_ste_part`.
+-- Proof of `llobatelh::llobatelh_ste_part`: at a place, or nowhere.
 -- Assumes: nothing.
 use borrow.Author.Needs.{needs}
 use Rattle.llobatelh.proofs.CallsLaws.{part-at, part-none}

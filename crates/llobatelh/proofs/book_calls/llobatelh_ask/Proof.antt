@@ -1,4 +1,4 @@
--- Proof of `llobatelh::book_calls::llobatelh_ask`.
+-- Proof of `llobatelh::book_calls::llobatelh_ask`: refused, kept before, newly kept, not kept.
 -- Assumes: nothing.
 use borrow.Author.Needs.{needs}
 use Rattle.llobatelh.proofs.CallsLaws.{ask-refused, ask-kept, ask-newly, ask-not}

@@ -1,4 +1,4 @@
--- Proof of `llobatelh::book_calls::llobatelh_notice`.
+-- Proof of `llobatelh::book_calls::llobatelh_notice`: what the book says, as a number.
 -- Assumes: nothing.
 use borrow.Author.Needs.{needs}
 use Rattle.llobatelh.proofs.CallsLaws.{noticed-is}

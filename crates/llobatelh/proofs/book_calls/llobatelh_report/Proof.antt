@@ -1,4 +1,4 @@
--- Proof of `llobatelh::book_calls::llobatelh_report`.
+-- Proof of `llobatelh::book_calls::llobatelh_report`: refused, or written.
 -- Assumes: nothing.
 use borrow.Author.Needs.{needs}
 use Rattle.llobatelh.proofs.CallsLaws.{report-refused, report-written}

@@ -1,4 +1,4 @@
--- Proof of `llobatelh::book_calls::number_of`.
+-- Proof of `llobatelh::book_calls::number_of`: refused, or done.
 -- Assumes: nothing.
 use borrow.Author.Needs.{needs}
 use Rattle.llobatelh.proofs.CallsLaws.{said-refused, said-done}

@@ -1,4 +1,4 @@
--- Proof of `llobatelh::handed::registers`.
+-- Proof of `llobatelh::handed::registers`: each register from its place.
 -- Assumes: nothing.
 use borrow.Author.Needs.{needs}
 use Rattle.llobatelh.proofs.HandedLaws.{registers-handed}

@@ -1,4 +1,4 @@
--- Proof of `llobatelh::handed::request`.
+-- Proof of `llobatelh::handed::request`: the stream, and which SubstreamID.
 -- Assumes: nothing.
 use borrow.Author.Needs.{needs}
 use Rattle.llobatelh.proofs.HandedLaws.{request-handed}

@@ -1,4 +1,4 @@
--- Proof of `llobatelh::handed::substream`.
+-- Proof of `llobatelh::handed::substream`: none, or the one given.
 -- Assumes: nothing.
 use borrow.Author.Needs.{needs}
 use Rattle.llobatelh.proofs.HandedLaws.{substream-without, substream-with}
