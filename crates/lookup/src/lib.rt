@@ -9,7 +9,7 @@ use ids::Request;
 use memory_image::Fetched;
 use registers::Registers;
 
-mod part;
+pub mod part;
 mod walk;
 
 // A refusal's number, or the answer.

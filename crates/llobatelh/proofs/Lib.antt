@@ -1,0 +1,5 @@
+-- Laws of specs/.
+pub mod HandedLaws
+pub mod CallsLaws
+pub mod ReportLengthLaws
+pub mod Claims

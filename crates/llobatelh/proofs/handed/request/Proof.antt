@@ -1,0 +1,15 @@
+-- Proof of `llobatelh::handed::request`: the stream, and which SubstreamID.
+-- Assumes: nothing.
+use borrow.Author.Needs.{needs}
+use Rattle.llobatelh.proofs.HandedLaws.{request-handed}
+use Rattle.llobatelh.proofs.handed.request.Statement.{statement}
+use Rattle.llobatelh.proofs.handed.request.Tie as tie
+
+substream-requires : tie.Need-substream-requires
+substream-requires c κs = search needs
+
+returns : tie.Need-returns
+returns c = search (needs, request-handed)
+
+pub request-spec : {M : Type 1} → statement M
+request-spec = tie.close (tie.spec substream-requires returns)

@@ -1,0 +1,4 @@
+-- What the contracts of this crate cite.
+pub mod Handed
+pub mod Calls
+pub mod Claims
