@@ -27,13 +27,12 @@ use Rattle.lookup.specs.declared.Looked.{Looked}
 use Rattle.lookup.proofs.Claims.{refused-exactly}
 use Rattle.lookup.proofs.PartLaws.{ste-inside}
 use Rattle.answer_words.specs.AnswerWords.{outcomeOf, listOf}
-use Rattle.book.specs.Layout.{slotsOf, blockAt, baseOf, lengthOf, extentHeld, registersOf}
-use Rattle.book.specs.Malformed.{refusal7}
+use Rattle.book_words.specs.Layout.{slotsOf, blockAt, baseOf, lengthOf, extentHeld, otherExtent, registersOf}
+use Rattle.book_words.specs.Malformed.{refusal7}
 use Rattle.book.specs.Book.{
   slotOf,
   emptySlot,
   askResult,
-  otherExtent,
   newly,
   newLookup,
   refusedWith as refusedAsk,

@@ -25,7 +25,7 @@ use Rattle.answers.specs.declared.Outcome.the-variants.{
   Quiet,
   Unserved,
 }
-use Rattle.book.specs.Layout.{slotsOf, keyAt}
+use Rattle.book_words.specs.Layout.{slotsOf, keyAt}
 use Rattle.report_cells.specs.Text.{bytes, digits, decimalText}
 use Rattle.report_cells.specs.Cells.{
   headerText,

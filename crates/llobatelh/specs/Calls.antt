@@ -24,7 +24,7 @@ use Rattle.lookup.specs.Lookup.{lookedUp}
 use Rattle.lookup.specs.declared.Answer.{Answer}
 use Rattle.lookup.specs.declared.Answer.the-variants as answer
 use Rattle.lookup.specs.declared.Looked.{Looked}
-use Rattle.book.specs.Layout.{slotsMost, openedWith}
+use Rattle.book_words.specs.Layout.{slotsMost, openedWith}
 use Rattle.book.specs.Book.{openSays, ifDone, askResult, askBook, newLookup, noticeSays, struckFrom}
 use Rattle.book.specs.declared.Asked.{Asked}
 use Rattle.book.specs.declared.Reply.{Reply}
