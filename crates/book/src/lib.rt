@@ -125,10 +125,10 @@ fn keep(book: &mut [u64; BOOK_WORDS], key: u64, slots: usize, looked: Looked) ->
     match answer {
         Answer::Refused(number) => refuse(number),
         Answer::Is(outcome) => {
-            let slot = book_words::find(&*book, 0, slots);
-            if slot < slots {
+            let empty = book_words::find(&*book, 0, slots);
+            if empty < slots {
                 let block = answer_words::encode(outcome, list);
-                book_words::put(book, slot, key, block);
+                book_words::put(book, empty, key, block);
                 return Asked {
                     reply: Reply::NewlyKept(outcome),
                     list,
