@@ -1,9 +1,9 @@
--- Proof of `report_cells::substream`.
+-- Proof of `report_cells::cells::substream`.
 -- Assumes: nothing.
 use borrow.Author.Needs.{needs}
 use Rattle.report_cells.proofs.CellsLaws.{without-spelled, with-spelled}
-use Rattle.report_cells.proofs.substream.Statement.{statement}
-use Rattle.report_cells.proofs.substream.Tie as tie
+use Rattle.report_cells.proofs.cells.substream.Statement.{statement}
+use Rattle.report_cells.proofs.cells.substream.Tie as tie
 
 enum-told : tie.Need-enum-told
 enum-told c = search needs

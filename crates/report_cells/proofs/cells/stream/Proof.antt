@@ -1,9 +1,9 @@
--- Proof of `report_cells::stream`.
+-- Proof of `report_cells::cells::stream`.
 -- Assumes: nothing.
 use borrow.Author.Needs.{needs}
 use Rattle.report_cells.proofs.CellsLaws.{stream-spelled}
-use Rattle.report_cells.proofs.stream.Statement.{statement}
-use Rattle.report_cells.proofs.stream.Tie as tie
+use Rattle.report_cells.proofs.cells.stream.Statement.{statement}
+use Rattle.report_cells.proofs.cells.stream.Tie as tie
 
 cast-hex : tie.Need-cast-hex
 cast-hex c = search needs

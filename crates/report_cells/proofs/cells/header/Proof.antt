@@ -1,9 +1,9 @@
--- Proof of `report_cells::header`.
+-- Proof of `report_cells::cells::header`.
 -- Assumes: nothing.
 use borrow.Author.Needs.{needs}
 use Rattle.report_cells.proofs.CellsLaws.{header-0, header-1, header-2, header-3, header-4}
-use Rattle.report_cells.proofs.header.Statement.{statement}
-use Rattle.report_cells.proofs.header.Tie as tie
+use Rattle.report_cells.proofs.cells.header.Statement.{statement}
+use Rattle.report_cells.proofs.cells.header.Tie as tie
 
 returns : tie.Need-returns
 returns c = search (needs, header-0)

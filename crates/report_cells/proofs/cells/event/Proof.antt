@@ -1,9 +1,9 @@
--- Proof of `report_cells::event`.
+-- Proof of `report_cells::cells::event`.
 -- Assumes: nothing.
 use borrow.Author.Needs.{needs}
 use Rattle.report_cells.proofs.CellsLaws.{translates-without, bypasses-without, bypasses-all-without, event-spelled, is-quiet-without, case-spelled}
-use Rattle.report_cells.proofs.event.Statement.{statement}
-use Rattle.report_cells.proofs.event.Tie as tie
+use Rattle.report_cells.proofs.cells.event.Statement.{statement}
+use Rattle.report_cells.proofs.cells.event.Tie as tie
 
 enum-told : tie.Need-enum-told
 enum-told c = search needs

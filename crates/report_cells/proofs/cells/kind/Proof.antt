@@ -1,9 +1,9 @@
--- Proof of `report_cells::kind`.
+-- Proof of `report_cells::cells::kind`.
 -- Assumes: nothing.
 use borrow.Author.Needs.{needs}
 use Rattle.report_cells.proofs.CellsLaws.{translates, bypasses, bypasses-all, aborts, is-quiet, not-served}
-use Rattle.report_cells.proofs.kind.Statement.{statement}
-use Rattle.report_cells.proofs.kind.Tie as tie
+use Rattle.report_cells.proofs.cells.kind.Statement.{statement}
+use Rattle.report_cells.proofs.cells.kind.Tie as tie
 
 enum-told : tie.Need-enum-told
 enum-told c = search needs

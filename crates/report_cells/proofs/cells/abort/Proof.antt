@@ -1,9 +1,9 @@
--- Proof of `report_cells::abort`.
+-- Proof of `report_cells::cells::abort`.
 -- Assumes: nothing.
 use borrow.Author.Needs.{needs}
 use Rattle.report_cells.proofs.CellsLaws.{recorded-spelled, unrecorded-spelled}
-use Rattle.report_cells.proofs.abort.Statement.{statement}
-use Rattle.report_cells.proofs.abort.Tie as tie
+use Rattle.report_cells.proofs.cells.abort.Statement.{statement}
+use Rattle.report_cells.proofs.cells.abort.Tie as tie
 
 returns : tie.Need-returns
 returns c = search (needs, recorded-spelled)
