@@ -1,5 +1,6 @@
 -- One step of each scan that is defined by what is left, under the test that the code makes.
 --     first-end, first-hit, first-miss     the search for a key
+--     first-none, first-found, first-more  its loop
 --     well-end, well-step              the slots one by one
 --     all-well, one-ill, one-well      the loop over the slots
 --     copy-end, copy-step              the words of a block
@@ -27,6 +28,17 @@ module _ (ws : List ℕ) (x n i : ℕ) where
   pub first-miss : i < n → (keyAt ws i ≡ x → ⊥) → firstFrom ws x (n - i) i ≡ firstFrom ws x (n - (i + 1)) (i + 1)
   unfolding firstFrom
   first-miss more is = rw (left-one n i more) (simp (ne-eqb _ _ is))
+
+-- the loop of the search: i passed
+module _ (ws : List ℕ) (x n : ℕ) {i : ℕ} (left : firstFrom ws x n 0 ≡ firstFrom ws x (n - i) i) where
+  pub first-none : n ≤ i → i ≡ firstFrom ws x n 0
+  first-none past = sym (left ∙ first-end ws x n i past)
+
+  pub first-found : i < n → keyAt ws i ≡ x → i ≡ firstFrom ws x n 0
+  first-found more is = sym (left ∙ first-hit ws x n i more is)
+
+  pub first-more : i < n → (keyAt ws i ≡ x → ⊥) → firstFrom ws x n 0 ≡ firstFrom ws x (n - (i + 1)) (i + 1)
+  first-more more is = left ∙ first-miss ws x n i more is
 
 module _ (ws : List ℕ) (n i : ℕ) where
   pub well-end : n ≤ i → wellFrom ws (n - i) i ≡ true

@@ -4,9 +4,9 @@ use borrow.Author.Needs.{needs}
 use native.Mathlib.Omega.{arith}
 use Prim.Native.Nat.{_≤_, _-_}
 use native.Mathlib.Nat.{sub-zero}
-use mathlib.Core.Path.{_≡_, sym, _∙_}
+use mathlib.Core.Path.{_≡_}
 use Rattle.book_words.specs.Malformed.{firstFrom}
-use Rattle.book_words.proofs.ScanLaws.{first-end, first-hit, first-miss}
+use Rattle.book_words.proofs.ScanLaws.{first-none, first-found, first-more}
 use Rattle.book_words.proofs.find.Statement.{statement}
 use Rattle.book_words.proofs.find.Tie as tie
 
@@ -29,7 +29,7 @@ element-copy-out-if1 : tie.Need-element-copy-out-if1 Inv-loop μ-loop
 element-copy-out-if1 c = omega arith
 
 returns : tie.Need-returns Inv-loop μ-loop
-returns c = (sym (c .before .before .before .loop .inv .1 ∙ first-hit _ _ _ _ (omega arith) (c .if1 .taken)), omega arith)
+returns c = (search (needs, first-found), omega arith)
 
 add-i : tie.Need-add-i Inv-loop μ-loop
 add-i c = omega arith
@@ -38,10 +38,10 @@ loop-less : tie.Need-loop-less Inv-loop μ-loop
 loop-less c = omega arith
 
 loop-again : tie.Need-loop-again Inv-loop μ-loop
-loop-again c = (omega arith, c .before .before .before .loop .inv .1 ∙ first-miss _ _ _ _ (omega arith) (c .if1 .left))
+loop-again c = (omega arith, search (needs, first-more))
 
 returns-2 : tie.Need-returns-2 Inv-loop μ-loop
-returns-2 c = (sym (c .before .loop .inv .1 ∙ first-end _ _ _ _ (c .loop-test .left)), omega arith)
+returns-2 c = (search (needs, first-none), omega arith)
 
 pub find-spec : {M : Type 1} → statement M
 find-spec =

@@ -38,10 +38,10 @@ loop-less : tie.Need-loop-less Inv-loop μ-loop
 loop-less c = omega arith
 
 loop-again : tie.Need-loop-again Inv-loop μ-loop
-loop-again c = (omega arith, omega arith, cells-summed _ _ _ _ (c .before .before .before .loop .inv .2) (omega arith) (c .before .cell-of .ensures), few-more _ _ (c .before .cell-of .ensures) (c .before .before .before .loop .inv .3))
+loop-again c = (omega arith, omega arith, search (needs, cells-summed), search (needs, few-more))
 
 returns : tie.Need-returns Inv-loop μ-loop
-returns c = (cells-done _ _ _ _ (c .before .loop .inv .2) (omega arith), omega arith)
+returns c = (search (needs, cells-done), omega arith)
 
 pub line-length-spec : {M : Type 1} → statement M
 line-length-spec =
