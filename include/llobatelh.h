@@ -84,7 +84,7 @@ typedef char llobatelh_size_has_64_bits[sizeof(size_t) == 8 ? 1 : -1];
 #define LLOBATELH_REFUSED_SLOTS 4     /* a book of 0 slots or of more than 64 */
 #define LLOBATELH_REFUSED_NOTICE 5    /* a notice with start + size above 2^52 */
 #define LLOBATELH_REFUSED_EXTENT 6    /* an ask's base or length is not the one that the book was opened with */
-#define LLOBATELH_REFUSED_BOOK 7      /* the book is malformed: its words are none that these calls leave */
+#define LLOBATELH_REFUSED_BOOK 7      /* the book is malformed: "The book" says when */
 #define LLOBATELH_REFUSED_BUFFER 8    /* the report's buffer is shorter than its text */
 
 /* What an ask says of the answer that it gives. */
@@ -159,6 +159,18 @@ typedef char llobatelh_size_has_64_bits[sizeof(size_t) == 8 ? 1 : -1];
    word: the StreamID from bit 21 on; below it 0, or bit 20 and the SubstreamID. */
 #define LLOBATELH_BOOK_KEY(i) (11 + (i))
 #define LLOBATELH_BOOK_ANSWER(i) (75 + LLOBATELH_ANSWER_WORDS * (i))
+
+/*
+ * A book is malformed exactly if
+ *     the number of slots is not 1 to 64; or a register's word is 2^32 or more; or the registers, or the base and the length,
+ *     are refused with 1 or 2; or the key of a slot past the number is not 0; or two keys are equal and not 0;
+ *     or a key that is not 0 is none of a request: 2^53 + 1 or more, or bit 20 of the request's word 0 and one below it 1;
+ *     or a held slot's answer has a kind that is none; an event or a case that is not listed; an ASID of 2^16 or more, a T0SZ of 64
+ *     or more, a TG0 above 3 or an EPD0 above 1; more than four pieces; or, among as many as it counts, one with address + length above 2^52.
+ * Nothing else is looked at: an empty slot's answer, words that a kind does not use and pieces past the count may be any words, and
+ * so may addresses, the effective IPS and TTB0. Of a kept answer an ask puts 0 for words that its
+ * kind does not use, and the pieces past its count as the slot has them: 0, unless the caller wrote there.
+ */
 
 /* ---- Calls ---- */
 

@@ -8,3 +8,4 @@ mod readings;
 mod refusals;
 mod rules;
 mod shots;
+mod words;
