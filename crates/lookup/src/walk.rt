@@ -107,17 +107,7 @@ fn from_ste(
             answer: Answer::Is(outcome),
             list: longer,
         },
-        Entry::Stage1(index) => from_index(
-            registers,
-            base,
-            memory,
-            limit,
-            ste,
-            w0,
-            w1,
-            index,
-            longer,
-        ),
+        Entry::Stage1(n) => from_index(registers, base, memory, limit, ste, w0, w1, n, longer),
     }
 }
 
