@@ -5,6 +5,8 @@
 --     outcome-proper, stands-count, listed-end   of words that stand: the outcome is proper, there are at most four pieces, each ends at or below 2^52
 --     translate-words .. unserved-words  the words by the outcome's cases
 --     of-translate .. of-quiet           the outcome by the words' kind
+--     put-words                          an outcome put before a list: the words of both
+--     put-translate .. put-unserved      what is put, by the outcome's cases
 --     low-kind, high-kind, outcome-unfit, list-decides    the tests of `stands` in order
 -- Assumes: nothing.
 use Prim.Native.Nat.{ℕ, _+_, _-_, _^_, _≤_, _<_}
@@ -17,14 +19,14 @@ use lib.Dec.{leb}
 use lib.ListN.{length, getD}
 use Rattle.number_laws.proofs.Tests.{both}
 use Rattle.memory_image.specs.declared.Piece.{Piece}
-use Rattle.answers.specs.Pieces.{nothing}
+use Rattle.answers.specs.Pieces.{nothing, onlyList}
 use Rattle.answers.specs.Proper.{properOutcome, properPieces}
 use Rattle.answers.specs.declared.Outcome.{Outcome}
 use Rattle.answers.specs.declared.Outcome.the-variants.{Translate, Bypass, BypassGlobal, Abort, Quiet, Unserved}
 use Rattle.answers.specs.declared.Translation.{Translation}
 use Rattle.answers.specs.declared.Pieces.{Pieces}
 use Rattle.answers.proofs.ProperLaws.{few-proper, ends-proper}
-use Rattle.answer_words.specs.AnswerWords.{kindOf, laidOut, wordsOf, translationIn, outcomeOf, listOf, stands}
+use Rattle.answer_words.specs.AnswerWords.{kindOf, laidOut, wordsOf, translationIn, outcomeOf, listOf, stands, shortPut, longPut, outcomePut, PutIs}
 
 pub words-length : (o : Outcome) (l : Pieces) → length (wordsOf o l) ≡ 18
 unfolding wordsOf laidOut
@@ -49,6 +51,10 @@ four (a ∷ (b ∷ [])) is = absurd (omega arith)
 four (a ∷ (b ∷ (c ∷ []))) is = absurd (omega arith)
 four (a ∷ (b ∷ (c ∷ (d ∷ [])))) is = refl
 four (a ∷ (b ∷ (c ∷ (d ∷ (e ∷ ps))))) is = absurd (omega arith)
+
+pub only-back : (l : Pieces) → length (l .piece) ≡ 4 → listOf (onlyList l) ≡ l
+unfolding onlyList listOf
+only-back l is = ap (λ (ps : List Piece). record { count = l .count; piece = ps }) (four (l .piece) is)
 
 pub list-back : (o : Outcome) (l : Pieces) → length (l .piece) ≡ 4 → listOf (wordsOf o l) ≡ l
 unfolding wordsOf laidOut listOf
@@ -193,3 +199,42 @@ module _ (ws : List ℕ) where
       unfolding stands
       list-decides good listed tested =
           rw tested (simp (le-leb _ _ least, le-leb _ _ most, ← read, ← test, not-false fits good, ← listed))
+
+-- an outcome put before a list
+pub put-words : (l : Pieces) (o : Outcome) → outcomePut (onlyList l) o ≡ wordsOf o l
+unfolding outcomePut onlyList wordsOf laidOut
+put-words l (Translate t) = refl
+put-words l (Bypass ste) = refl
+put-words l BypassGlobal = refl
+put-words l (Abort event) = refl
+put-words l Quiet = refl
+put-words l (Unserved n) = refl
+
+module _ (ws : List ℕ) {o : Outcome} {says number : ℕ} {after : List ℕ} where
+  pub put-translate :
+      {t : Translation} → o ≡ Translate t → PutIs (longPut ws t) number says after → PutIs (outcomePut ws o) number says after
+  unfolding outcomePut
+  put-translate is put = rw is put
+
+  pub put-bypass :
+      {ste : ℕ} → o ≡ Bypass ste → PutIs (shortPut ws 2 ste) number says after → PutIs (outcomePut ws o) number says after
+  unfolding outcomePut
+  put-bypass is put = rw is put
+
+  pub put-global : o ≡ BypassGlobal → PutIs (shortPut ws 3 0) number says after → PutIs (outcomePut ws o) number says after
+  unfolding outcomePut
+  put-global is put = rw is put
+
+  pub put-abort :
+      {event : ℕ} → o ≡ Abort event → PutIs (shortPut ws 4 event) number says after → PutIs (outcomePut ws o) number says after
+  unfolding outcomePut
+  put-abort is put = rw is put
+
+  pub put-quiet : o ≡ Quiet → PutIs (shortPut ws 5 0) number says after → PutIs (outcomePut ws o) number says after
+  unfolding outcomePut
+  put-quiet is put = rw is put
+
+  pub put-unserved :
+      {n : ℕ} → o ≡ Unserved n → PutIs (shortPut ws 6 n) number says after → PutIs (outcomePut ws o) number says after
+  unfolding outcomePut
+  put-unserved is put = rw is put

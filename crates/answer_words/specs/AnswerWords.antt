@@ -2,14 +2,16 @@
 --     wordsOf              the 18 words of an outcome and a list: start here
 --     outcomeOf, listOf    the outcome and the list that words stand for
 --     stands               whether words stand for an answer
+--     outcomePut           words with an outcome put before the list that they hold
 --     kindAt .. piecesAt   the words by their places: [0] the kind, [1..8] the values, [9] the count, [10..17] the pieces
 -- Ours: all of it; a kind that is none reads as a quiet abort, and does not stand.
 -- Assumes: nothing.
 use Prim.Native.Nat.{ℕ, zero, suc, _+_}
+use mathlib.Core.Path.{_≡_}
 use mathlib.Core.Bool.{Bool, _&&_}
 use mathlib.Core.List.{List, [], _∷_, _++_}
 use lib.Dec.{eqb, leb}
-use lib.ListN.{getD}
+use lib.ListN.{getD, set}
 use Rattle.bit_fields.specs.Choice.{if_then_else_}
 use Rattle.memory_image.specs.declared.Piece.{Piece}
 use Rattle.answers.specs.Pieces.{piecesMost, nothing}
@@ -115,3 +117,25 @@ unfoldable pub stands : List ℕ → Bool
 stands words =
     leb 1 (getD words kindAt 0)
     && (leb (getD words kindAt 0) 6 && (properOutcome (outcomeOf words) && properPieces (listOf words)))
+
+-- words with an outcome put before the list that they hold
+abbrev pub shortPut : List ℕ → ℕ → ℕ → List ℕ
+shortPut ws kind value = set (set ws 0 kind) 1 value
+
+abbrev pub longPut : List ℕ → Translation → List ℕ
+longPut ws t =
+    set (set (set (set (set (set (set (set (set ws 0 1) 1 (t .ste)) 2 (t .cd)) 3 (t .asid)) 4 (t .t0sz)) 5 (t .tg0)) 6 (t .epd0)) 7 (t .ips)) 8
+    (t .ttb0)
+
+unfoldable pub outcomePut : List ℕ → Outcome → List ℕ
+outcomePut ws (Translate t) = longPut ws t
+outcomePut ws (Bypass ste) = shortPut ws 2 ste
+outcomePut ws BypassGlobal = shortPut ws 3 0
+outcomePut ws (Abort event) = shortPut ws 4 event
+outcomePut ws Quiet = shortPut ws 5 0
+outcomePut ws (Unserved n) = shortPut ws 6 n
+
+-- words are put, and a number is said
+pub record PutIs (words : List ℕ) (number says : ℕ) (after : List ℕ) : Type 0 where
+  pub result : says ≡ number
+  pub put : after ≡ words

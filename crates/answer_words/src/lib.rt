@@ -2,9 +2,10 @@
 // Meets specs/AnswerWords.antt. The words of the values are in layout.rt; what a kept answer must have is
 // tested in proper.rt.
 ghost use mathlib.Core.Path.{_≡_};
-ghost use Rattle.answer_words.specs.AnswerWords.{wordsOf, outcomeOf, listOf, stands};
+ghost use Rattle.answer_words.specs.AnswerWords.{PutIs, longPut, outcomePut, shortPut, wordsOf, outcomeOf, listOf, stands};
 use answers::Outcome;
 use answers::Pieces;
+use answers::Translation;
 use memory_image::Piece;
 
 mod layout;
@@ -118,4 +119,42 @@ pub fn is_answer(words: [u64; ANSWER_WORDS]) -> bool
     }
     let list = list_of(words);
     proper::is_list(list)
+}
+
+// A kind and its value.
+fn put_short(words: &mut [u64; ANSWER_WORDS], kind: u64, value: u64, number: u64) -> u64
+    ensures { λ r. ⌜ PutIs (shortPut (now (words .entry)) kind value) number r (now (words .exit)) ⌝ }
+{
+    words[0] = kind;
+    words[1] = value;
+    number
+}
+
+fn put_long(words: &mut [u64; ANSWER_WORDS], t: Translation, number: u64) -> u64
+    ensures { λ r. ⌜ PutIs (longPut (now (words .entry)) t) number r (now (words .exit)) ⌝ }
+{
+    words[0] = TRANSLATE;
+    words[1] = t.ste;
+    words[2] = t.cd;
+    words[3] = t.asid;
+    words[4] = t.t0sz;
+    words[5] = t.tg0;
+    words[6] = t.epd0;
+    words[7] = t.ips;
+    words[8] = t.ttb0;
+    number
+}
+
+// Puts an outcome before the list that words hold, and says the number that it is handed.
+pub fn put_outcome(words: &mut [u64; ANSWER_WORDS], outcome: Outcome, number: u64) -> u64
+    ensures { λ r. ⌜ PutIs (outcomePut (now (words .entry)) outcome) number r (now (words .exit)) ⌝ }
+{
+    match outcome {
+        Outcome::Translate(t) => put_long(words, t, number),
+        Outcome::Bypass(ste) => put_short(words, BYPASS, ste, number),
+        Outcome::BypassGlobal => put_short(words, BYPASS_GLOBAL, 0, number),
+        Outcome::Abort(event) => put_short(words, ABORT, event, number),
+        Outcome::Quiet => put_short(words, QUIET, 0, number),
+        Outcome::Unserved(case) => put_short(words, UNSERVED, case, number),
+    }
 }

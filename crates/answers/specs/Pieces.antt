@@ -4,8 +4,10 @@
 --     piecesOf           a list, as a count and an array: the pieces, and zeros after them
 --     EachPiece          something holds of each piece that is counted
 --     runOn              what a rule gives, and the list as it grows from one that is handed on
+--     pushedIn, runIn    the same for a list that stands in an answer's words, which are lent
 -- Assumes: nothing.
 use Prim.Native.Nat.{ℕ, zero, suc, _+_, _-_, _*_, _<_}
+use mathlib.Core.Path.{_≡_}
 use mathlib.Core.List.{List, [], _∷_}
 use lib.Dec.{ltb}
 use lib.ListN.{length, getD, set, replicate}
@@ -52,3 +54,36 @@ runOn e limit f (fetch address n fault rest) l =
     if fetched e limit address (8 * n)
     then runOn e limit f (rest (wordsAt f (address - e .base) n)) (pushed l (piece address n))
     else runOn e limit f fault l
+
+-- one piece more in an answer's words: word 9 is the count, and the pieces stand from word 10 on, address and length each
+unfoldable pub pushedIn : List ℕ → Piece → List ℕ
+pushedIn ws p =
+    if ltb (getD ws 9 0) piecesMost
+    then set (set (set ws (10 + 2 * getD ws 9 0) (p .address)) (11 + 2 * getD ws 9 0) (p .length)) 9 (getD ws 9 0 + 1)
+    else ws
+
+pub record RanIn (A : Type 0) : Type 0 where
+  pub answer : A
+  pub words : List ℕ
+
+unfoldable pub runIn : {A : Type 0} → Extent → ℕ → (ℕ → ℕ) → Rule A → List ℕ → RanIn A
+runIn e limit f (done x) ws = record { answer = x; words = ws }
+runIn e limit f (fetch address n fault rest) ws =
+    if fetched e limit address (8 * n)
+    then runIn e limit f (rest (wordsAt f (address - e .base) n)) (pushedIn ws (piece address n))
+    else runIn e limit f fault ws
+
+-- what a function gives and leaves in the words is what a rule gives and leaves
+pub record WalksIn (A : Type 0) (ran : RanIn A) (r : A) (after : List ℕ) : Type 0 where
+  pub result : r ≡ ran .answer
+  pub words : after ≡ ran .words
+
+-- the words of a list and of nothing else: zeros before it
+abbrev pub piecesFrom : List Piece → ℕ → ℕ → List ℕ
+piecesFrom pieces zero i = []
+piecesFrom pieces (suc m) i =
+    getD pieces i nothing .address ∷ (getD pieces i nothing .length ∷ piecesFrom pieces m (i + 1))
+
+unfoldable pub onlyList : Pieces → List ℕ
+onlyList l =
+    0 ∷ (0 ∷ (0 ∷ (0 ∷ (0 ∷ (0 ∷ (0 ∷ (0 ∷ (0 ∷ (l .count ∷ piecesFrom (l .piece) piecesMost 0)))))))))

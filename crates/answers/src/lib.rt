@@ -2,7 +2,7 @@
 // Meets specs/Outcome.antt, which has the numbers of 01, and specs/Pieces.antt.
 ghost use mathlib.Core.Path.{_≡_};
 ghost use Rattle.answers.specs.Outcome.{recorded};
-ghost use Rattle.answers.specs.Pieces.{none, pushed};
+ghost use Rattle.answers.specs.Pieces.{none, pushed, pushedIn};
 use memory_image::Piece;
 use registers::Registers;
 
@@ -97,5 +97,19 @@ impl Pieces {
             return list;
         }
         self
+    }
+}
+
+// One piece more on the list that stands in an answer's words, or as it is where it is full.
+pub fn list_piece(words: &mut [u64; 18], address: u64, length: u64)
+    ensures { λ _. ⌜ now (words .exit) ≡ pushedIn (now (words .entry)) (record { address = address; length = length }) ⌝ }
+{
+    let n = words[9] as usize;
+    if n < PIECES_MOST {
+        let at = 10 + 2 * n;
+        let next = 11 + 2 * n;
+        words[at] = address;
+        words[next] = length;
+        words[9] = n as u64 + 1;
     }
 }

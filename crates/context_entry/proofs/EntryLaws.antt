@@ -1,6 +1,6 @@
 -- What a CD says, on plain values: a law for each way out.
 --     old-served, old-bad              AA64 0
---     cd-invalid, cd-old, cd-bad, cd-off, cd-fits, cd-unfit    in order
+--     cd-invalid, cd-old, cd-bad, cd-off, found-fits, found-unfit    in order
 --     cd-two       the first two words say it all
 --     cd-proper    the outcome is proper
 -- Assumes: nothing.
@@ -97,6 +97,17 @@ module _ (r : Registers) (ste cd : ℕ) (w : ℕ → ℕ) {valid : ℕ} (is-v : 
                 ← is-fits,
                 bad,
               )
+
+        -- by the size that the translation has already
+        module _ (walked : off ≡ 1 → ⊥) {half : Half} (is-half : half ≡ firstHalf w) {fits : Bool} (is-fits : fits ≡ halfFits r (found .ips) half) where
+          has-size : found .ips ≡ effectiveIps r (ips w)
+          has-size = ap (λ (t : Translation). t .ips) is-found
+
+          pub found-fits : fits ≡ true → Translate found ≡ cdRule r ste cd w
+          found-fits good = cd-fits walked is-half refl has-size is-fits good
+
+          pub found-unfit : fits ≡ false → Abort 10 ≡ cdRule r ste cd w
+          found-unfit bad = cd-unfit walked is-half refl has-size is-fits bad
 
 pub cd-two : (r : Registers) (ste cd : ℕ) (w : ℕ → ℕ) → cdRule r ste cd w ≡ cdRule r ste cd (twoWords (w 0) (w 1))
 unfolding cdRule

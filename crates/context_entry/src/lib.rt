@@ -138,7 +138,7 @@ pub fn read_cd(registers: Registers, ste: u64, cd: u64, w0: u64, w1: u64) -> Out
         return Outcome::Translate(found);
     }
     let half = first_half(w0, w1);
-    let bits = ips_bits(registers, field(w0, 32, 3));
+    let bits = found.ips;
     if half_fits(registers, bits, half) {
         return Outcome::Translate(found);
     }

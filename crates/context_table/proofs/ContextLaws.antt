@@ -20,12 +20,12 @@ use Rattle.memory_image.specs.Words.{bytes, wordIn, twoWords}
 use Rattle.memory_image.specs.Rule.{Rule, done, Fetches, Every, Gives}
 use Rattle.memory_image.specs.declared.Fetched.{Fetched}
 use Rattle.memory_image.specs.declared.Fetched.the-variants.{At, Outside}
-use Rattle.answers.specs.Pieces.{pushed}
+use Rattle.answers.specs.Pieces.{pushed, pushedIn, runIn, WalksIn}
 use Rattle.answers.specs.Proper.{listedEvent, properOutcome}
 use Rattle.answers.specs.declared.Outcome.the-variants.{Abort}
 use Rattle.answers.specs.declared.Pieces.{Pieces}
-use Rattle.answers.proofs.PiecesLaws.{run-on-done}
-use Rattle.answers.proofs.FetchLaws.{level-fault, level-read}
+use Rattle.answers.proofs.PiecesLaws.{run-on-done, run-in-done}
+use Rattle.answers.proofs.FetchLaws.{level-fault, level-read, in-level-fault, in-level-read}
 use Rattle.stream_entry.specs.StreamEntry.{s1Fmt, s1CdMax}
 use Rattle.context_table.specs.ContextTable.{leafBits, l1cdRule, twoLevelRule, contextRule, walkedOn}
 use Rattle.context_table.specs.declared.Found.{Found}
@@ -139,3 +139,53 @@ module _ (w : ℕ → ℕ) (index : ℕ) where
   unfolding twoLevelRule properOutcome listedEvent
   context-proper =
       context-cases (Gives EndsProper) (λ cd. tt) (refl, λ entry. l1cd-proper (leafBits (s1Fmt w)) (entry 0) index)
+
+-- the same ways out, with the list in an answer's words
+module _ (base : ℕ) (memory : List ℕ) (limit : ℕ) (l : List ℕ) where
+  abbrev Goes : Rule Found → Found → List ℕ → Type 0
+  Goes rule = WalksIn Found (runIn (extentOf base memory) limit (bytes memory) rule l)
+
+  walks-done : (x : Found) → Goes (done x) x l
+  walks-done x = rw (run-in-done (extentOf base memory) limit (bytes memory) x l) (record { result = refl; words = refl })
+
+  module _ (word leaf index : ℕ) {p above : ℕ} (pointer : p ≡ bits 55 6 word) (upper : above ≡ high index leaf) {said : Fetched}
+      (is : said ≡ fetchRule (extentOf base memory) limit (p * 64 + 8 * above) 8) where
+    pub in-two-fault : said ≡ Outside → Goes (twoLevelRule (bits 55 6 word * 64) leaf index) (Ended (Abort 9)) l
+    unfolding twoLevelRule
+    in-two-fault out =
+        rw (
+          ← upper,
+          ← pointer,
+          in-level-fault base memory limit (p * 64 + 8 * above) 1 is l (Ended (Abort 9)) (λ entry. l1cdRule leaf entry index) out,
+        ) (record { result = refl; words = refl })
+
+    pub in-two-read :
+        {place entry : ℕ} {found : Found} {longer : List ℕ} → said ≡ At place → entry ≡ wordIn memory place
+        → found ≡ l1cdRule leaf entry index → longer ≡ pushedIn l (record { address = p * 64 + 8 * above; length = 8 })
+        → Goes (twoLevelRule (bits 55 6 word * 64) leaf index) found longer
+    unfolding twoLevelRule
+    in-two-read had read says push =
+        rw (
+          ← upper,
+          ← pointer,
+          in-level-read base memory limit (p * 64 + 8 * above) 1 is l (Ended (Abort 9)) (λ entry. l1cdRule leaf entry index)
+              (omega arith) had read push,
+        ) (record { result = says; words = refl })
+
+  module _ (w : ℕ → ℕ) (index : ℕ) {p max : ℕ} (pointer : p ≡ bits 55 6 (w 0)) (is-max : max ≡ s1CdMax w) where
+    pub in-alone : max ≡ 0 → Goes (contextRule w index) (Cd (p * 64)) l
+    unfolding contextRule
+    in-alone none = rw pointer (simp (← is-max, eq-eqb _ _ none) (walks-done (Cd (bits 55 6 (w 0) * 64))))
+
+    module _ (some : max ≡ 0 → ⊥) {format : ℕ} (is-format : format ≡ s1Fmt w) where
+      pub in-linear : format ≡ 0 → Goes (contextRule w index) (Cd (p * 64 + 64 * index)) l
+      unfolding contextRule
+      in-linear flat =
+          rw pointer
+          (simp (← is-max, ne-eqb _ _ some, ← is-format, eq-eqb _ _ flat) (walks-done (Cd (bits 55 6 (w 0) * 64 + 64 * index))))
+
+      pub in-two :
+          (format ≡ 0 → ⊥) → {leaf : ℕ} {found : Found} {longer : List ℕ} → leaf ≡ leafBits format
+          → Goes (twoLevelRule (bits 55 6 (w 0) * 64) leaf index) found longer → Goes (contextRule w index) found longer
+      unfolding contextRule
+      in-two deep is-leaf walk = simp (← is-max, ne-eqb _ _ some, ← is-format, ne-eqb _ _ deep) (rw is-leaf at walk)

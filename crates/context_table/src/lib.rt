@@ -2,6 +2,10 @@
 // Meets specs/ContextTable.antt; reads only through `memory_image::fetch`.
 ghost use mathlib.Core.Path.{_≡_};
 ghost use Rattle.memory_image.specs.Words.{twoWords};
+ghost use Rattle.memory_image.specs.Extent.{extentOf};
+ghost use Rattle.memory_image.specs.Words.{bytes};
+ghost use Rattle.answers.specs.Pieces.{WalksIn, runIn};
+ghost use Rattle.context_table.specs.declared.Found.{Found};
 ghost use Rattle.stream_entry.specs.StreamEntry.{s1ContextPtr};
 ghost use Rattle.context_table.specs.ContextTable.{contextRule, l1cdRule, leafBits, twoLevelRule, walkedOn};
 use answers::Outcome;
@@ -100,4 +104,51 @@ pub fn find_cd(
     }
     let leaf = leaf_bits(format);
     two_level(base, memory, limit, w0, leaf, index, list)
+}
+
+// A two-level table, from the STE's first word, with so many low bits of the index in the leaf.
+fn two_level_in(
+    base: u64,
+    memory: &[u8],
+    limit: u64,
+    w0: u64,
+    leaf: u64,
+    index: u32,
+    words: &mut [u64; 18],
+) -> Found
+    ensures { λ r. ⌜ WalksIn Found (runIn (extentOf base (now (memory .entry))) limit (bytes (now (memory .entry))) (twoLevelRule (s1ContextPtr (twoWords w0 0)) leaf index) (now (words .entry))) r (now (words .exit)) ⌝ }
+{
+    let pointer = field(w0, 6, 50) * 64;
+    let address = pointer + 8 * high(index as u64, leaf);
+    let Fetched::At(place) = memory_image::fetch(base, memory, limit, address, 8) else {
+        return Found::Ended(Outcome::Abort(answers::F_CD_FETCH));
+    };
+    let l1cd = memory_image::word_at(memory, place);
+    answers::list_piece(words, address, 8);
+    in_leaf(leaf, l1cd, index)
+}
+
+// Where the CD with an index lies, by the first two words of the STE. What is read goes on the list in the words.
+pub fn find_cd_in(
+    base: u64,
+    memory: &[u8],
+    limit: u64,
+    w0: u64,
+    w1: u64,
+    index: u32,
+    words: &mut [u64; 18],
+) -> Found
+    ensures { λ r. ⌜ WalksIn Found (runIn (extentOf base (now (memory .entry))) limit (bytes (now (memory .entry))) (contextRule (twoWords w0 w1) index) (now (words .entry))) r (now (words .exit)) ⌝ }
+{
+    let pointer = field(w0, 6, 50) * 64;
+    if field(w0, 59, 5) == 0 {
+        return Found::Cd(pointer);
+    }
+    let format = field(w0, 4, 2);
+    if format == 0 {
+        let address = pointer + 64 * (index as u64);
+        return Found::Cd(address);
+    }
+    let leaf = leaf_bits(format);
+    two_level_in(base, memory, limit, w0, leaf, index, words)
 }

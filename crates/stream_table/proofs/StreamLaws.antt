@@ -24,13 +24,13 @@ use Rattle.memory_image.specs.Rule.{Rule, done, Fetches, Every, Gives}
 use Rattle.memory_image.specs.declared.Piece.{Piece}
 use Rattle.memory_image.specs.declared.Fetched.{Fetched}
 use Rattle.memory_image.specs.declared.Fetched.the-variants.{At, Outside}
-use Rattle.answers.specs.Pieces.{pushed, runOn}
+use Rattle.answers.specs.Pieces.{pushed, runOn, pushedIn, runIn, WalksIn}
 use Rattle.answers.specs.Proper.{listedEvent, properOutcome}
 use Rattle.answers.specs.declared.Outcome.{Outcome}
 use Rattle.answers.specs.declared.Outcome.the-variants.{Abort, Quiet, BypassGlobal}
 use Rattle.answers.specs.declared.Pieces.{Pieces}
-use Rattle.answers.proofs.PiecesLaws.{run-on-done}
-use Rattle.answers.proofs.FetchLaws.{level-fault, level-read}
+use Rattle.answers.proofs.PiecesLaws.{run-on-done, run-in-done}
+use Rattle.answers.proofs.FetchLaws.{level-fault, level-read, in-level-fault, in-level-read}
 use Rattle.stream_table.specs.StreamTable.{switchedOff, log2, linear, linearAt, splitOf, l1stdAt, holds, spanOf, inLeaf, leafRule, twoLevelRule, streamRule, walkedOn}
 use Rattle.stream_table.specs.declared.Found.{Found}
 use Rattle.stream_table.specs.declared.Found.the-variants.{Ste, Ended}
@@ -168,3 +168,58 @@ module _ (r : Registers) (stream : ℕ) where
           ≡ done (Ended outcome))
       go true = (switchedOff r, refl)
       go false = (Abort 2, simp (le-leb _ _ past))
+
+-- the same ways out, with the list in an answer's words
+module _ (base : ℕ) (memory : List ℕ) (limit : ℕ) (r : Registers) (stream : ℕ) (l : List ℕ) where
+  abbrev Goes : Rule Found → Found → List ℕ → Type 0
+  Goes rule = WalksIn Found (runIn (extentOf base memory) limit (bytes memory) rule l)
+
+  walks-done : (x : Found) → Goes (done x) x l
+  walks-done x = rw (run-in-done (extentOf base memory) limit (bytes memory) x l) (record { result = refl; words = refl })
+
+  module _ (split : ℕ) {address : ℕ} (at : address ≡ l1stdAt r split stream) {said : Fetched}
+      (is : said ≡ fetchRule (extentOf base memory) limit address 8) where
+    pub in-two-fault : said ≡ Outside → Goes (twoLevelRule r split stream) (Ended (Abort 3)) l
+    unfolding twoLevelRule
+    in-two-fault out =
+        rw (← at, in-level-fault base memory limit address 1 is l (Ended (Abort 3)) (λ word. leafRule split word stream) out)
+        (record { result = refl; words = refl })
+
+    pub in-two-read :
+        {place word : ℕ} {found : Found} {longer : List ℕ} → said ≡ At place → word ≡ wordIn memory place
+        → found ≡ leafRule split word stream → longer ≡ pushedIn l (record { address = address; length = 8 })
+        → Goes (twoLevelRule r split stream) found longer
+    unfolding twoLevelRule
+    in-two-read had read leaf push =
+        rw
+        (← at, in-level-read base memory limit address 1 is l (Ended (Abort 3)) (λ word. leafRule split word stream) (omega arith) had read push)
+        (record { result = leaf; words = refl })
+
+  module _ {on : ℕ} (enabled : on ≡ smmuEn r) where
+    pub in-off : on ≡ 0 → {outcome : Outcome} → outcome ≡ switchedOff r → Goes (streamRule r stream) (Ended outcome) l
+    unfolding streamRule
+    in-off off is = rw is (simp (← enabled, eq-eqb _ _ off) (walks-done (Ended (switchedOff r))))
+
+    module _ (set : on ≡ 0 → ⊥) {size : ℕ} (effective : size ≡ log2 r) {fits : Bool} (test : fits ≡ inBits stream size) where
+      pub in-past : not fits ≡ true → Goes (streamRule r stream) (Ended (Abort 2)) l
+      unfolding streamRule
+      in-past out =
+          let no : ltb stream (2 ^ log2 r) ≡ false = ap (inBits stream) (sym effective) ∙ sym test ∙ not-true fits out in
+          simp (← enabled, ne-eqb _ _ set, le-leb (2 ^ log2 r) stream (ltb-false stream (2 ^ log2 r) no)) (walks-done (Ended (Abort 2)))
+
+      module _ (inside : not fits ≡ false) {is-linear : Bool} (kind : is-linear ≡ linear r) where
+        to-kind-in :
+            streamRule r stream
+            ≡ (if linear r then done (Ste (linearAt r stream)) else twoLevelRule r (splitOf (fields.split r)) stream)
+        unfolding streamRule
+        to-kind-in =
+            let yes : ltb stream (2 ^ log2 r) ≡ true = ap (inBits stream) (sym effective) ∙ sym test ∙ not-false fits inside in
+            simp (← enabled, ne-eqb _ _ set, lt-leb (2 ^ log2 r) stream (ltb-true stream (2 ^ log2 r) yes))
+
+        pub in-linear : is-linear ≡ true → {address : ℕ} → address ≡ linearAt r stream → Goes (streamRule r stream) (Ste address) l
+        in-linear flat at = rw (at, to-kind-in, ← kind, flat) (walks-done (Ste (linearAt r stream)))
+
+        pub in-two :
+            is-linear ≡ false → {code split : ℕ} {found : Found} {longer : List ℕ} → code ≡ fields.split r → split ≡ splitOf code
+            → Goes (twoLevelRule r split stream) found longer → Goes (streamRule r stream) found longer
+        in-two deep is-code is-split walk = rw (to-kind-in, ← kind, deep, ← is-code, ← is-split) walk

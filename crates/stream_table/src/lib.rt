@@ -1,6 +1,10 @@
 // Where a stream's STE lies. Start at `find_ste`.
 // Meets specs/StreamTable.antt; reads only through `memory_image::fetch`.
 ghost use mathlib.Core.Path.{_≡_};
+ghost use Rattle.memory_image.specs.Extent.{extentOf};
+ghost use Rattle.memory_image.specs.Words.{bytes};
+ghost use Rattle.answers.specs.Pieces.{WalksIn, runIn};
+ghost use Rattle.stream_table.specs.declared.Found.{Found};
 ghost use Rattle.stream_table.specs.StreamTable.{holds, l1stdAt, leafRule, linear, linearAt, log2, splitOf, streamRule, switchedOff, twoLevelRule, walkedOn};
 use answers::Outcome;
 use answers::Pieces;
@@ -186,4 +190,51 @@ pub fn find_ste(
     }
     let split = split_of(registers.split());
     two_level(registers, split, base, memory, limit, stream, list)
+}
+
+// Steps 4 to 6: a two-level table, split at so many bits; the list stands in the words.
+fn two_level_in(
+    registers: Registers,
+    split: u64,
+    base: u64,
+    memory: &[u8],
+    limit: u64,
+    stream: StreamId,
+    words: &mut [u64; 18],
+) -> Found
+    ensures { λ r. ⌜ WalksIn Found (runIn (extentOf base (now (memory .entry))) limit (bytes (now (memory .entry))) (twoLevelRule registers split (stream .number)) (now (words .entry))) r (now (words .exit)) ⌝ }
+{
+    let address = l1std_at(registers, split, stream);
+    let Fetched::At(place) = memory_image::fetch(base, memory, limit, address, 8) else {
+        return Found::Ended(Outcome::Abort(answers::F_STE_FETCH));
+    };
+    let l1std = memory_image::word_at(memory, place);
+    answers::list_piece(words, address, 8);
+    in_leaf(split, l1std, stream)
+}
+
+// Where the STE of a stream lies, or how the lookup ends before. What is read goes on the list in the words.
+pub fn find_ste_in(
+    registers: Registers,
+    base: u64,
+    memory: &[u8],
+    limit: u64,
+    stream: StreamId,
+    words: &mut [u64; 18],
+) -> Found
+    ensures { λ r. ⌜ WalksIn Found (runIn (extentOf base (now (memory .entry))) limit (bytes (now (memory .entry))) (streamRule registers (stream .number)) (now (words .entry))) r (now (words .exit)) ⌝ }
+{
+    if registers.smmu_en() == 0 {
+        let outcome = switched_off(registers);
+        return Found::Ended(outcome);
+    }
+    if !in_bits(stream.number as u64, log2(registers)) {
+        return Found::Ended(Outcome::Abort(answers::C_BAD_STREAMID));
+    }
+    if is_linear(registers) {
+        let address = linear_at(registers, stream);
+        return Found::Ste(address);
+    }
+    let split = split_of(registers.split());
+    two_level_in(registers, split, base, memory, limit, stream, words)
 }

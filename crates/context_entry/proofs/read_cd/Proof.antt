@@ -1,7 +1,7 @@
 -- Proof of `context_entry::read_cd`: in order, a law for each way out.
 -- Assumes: nothing.
 use borrow.Author.Needs.{needs}
-use Rattle.context_entry.proofs.EntryLaws.{cd-invalid, cd-old, cd-bad, cd-off, cd-fits, cd-unfit}
+use Rattle.context_entry.proofs.EntryLaws.{cd-invalid, cd-old, cd-bad, cd-off, found-fits, found-unfit}
 use Rattle.context_entry.proofs.read_cd.Statement.{statement}
 use Rattle.context_entry.proofs.read_cd.Tie as tie
 
@@ -41,20 +41,14 @@ returns-4 c = search (needs, cd-off)
 first-half-requires : tie.Need-first-half-requires
 first-half-requires c κs = search needs
 
-field-requires-5 : tie.Need-field-requires-5
-field-requires-5 c κs = search needs
-
-ips-bits-requires : tie.Need-ips-bits-requires
-ips-bits-requires c κs = search needs
-
 half-fits-requires : tie.Need-half-fits-requires
 half-fits-requires c κs = search needs
 
 returns-5 : tie.Need-returns-5
-returns-5 c = search (needs, cd-fits)
+returns-5 c = search (needs, found-fits)
 
 returns-6 : tie.Need-returns-6
-returns-6 c = search (needs, cd-unfit)
+returns-6 c = search (needs, found-unfit)
 
 pub read-cd-spec : {M : Type 1} → statement M
 read-cd-spec =
@@ -72,8 +66,6 @@ read-cd-spec =
     field-requires-4
     returns-4
     first-half-requires
-    field-requires-5
-    ips-bits-requires
     half-fits-requires
     returns-5
     returns-6)

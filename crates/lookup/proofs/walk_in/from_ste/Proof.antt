@@ -1,10 +1,15 @@
--- Proof of `lookup::walk::from_ste`: the STE is not fetched; it ends the lookup; it leads to a CD.
+-- Proof of `lookup::walk_in::from_ste`.
 -- Assumes: nothing.
 use borrow.Author.Needs.{needs}
 use Rattle.memory_image.proofs.DescriptorLaws.{next-fits}
-use Rattle.lookup.proofs.WalkLaws.{ste-fault, ste-ended, ste-goes}
-use Rattle.lookup.proofs.walk.from_ste.Statement.{statement}
-use Rattle.lookup.proofs.walk.from_ste.Tie as tie
+use Rattle.lookup.proofs.WalkLaws.{in-ste-fault, in-ste-ended, in-ste-goes}
+use Rattle.lookup.proofs.walk_in.from_ste.Statement.{statement}
+use Rattle.lookup.proofs.walk_in.from_ste.Tie as tie
+use Rattle.answers.proofs.list_piece.Reads as list-piece-reads
+use Rattle.lookup.proofs.walk_in.from_index.Reads as from-index-reads
+use Rattle.memory_image.proofs.fetch.Reads as fetch-reads
+use Rattle.memory_image.proofs.word_at.Reads as word-at-reads
+use Rattle.stream_entry.proofs.read_ste.Reads as read-ste-reads
 
 fetch-requires : tie.Need-fetch-requires
 fetch-requires c κs = search needs
@@ -16,10 +21,10 @@ enum-told : tie.Need-enum-told
 enum-told c = search needs
 
 returns : tie.Need-returns
-returns c = search (needs, ste-fault)
+returns c = search (needs, in-ste-fault)
 
-push-requires : tie.Need-push-requires
-push-requires c κs = search needs
+list-piece-requires : tie.Need-list-piece-requires
+list-piece-requires c κs = search needs
 
 add-next : tie.Need-add-next
 add-next c = search (needs, next-fits)
@@ -43,10 +48,10 @@ from-index-requires : tie.Need-from-index-requires
 from-index-requires c κs = search needs
 
 returns-2 : tie.Need-returns-2
-returns-2 c = search (needs, ste-ended)
+returns-2 c = search (needs, in-ste-ended)
 
 returns-3 : tie.Need-returns-3
-returns-3 c = search (needs, ste-goes)
+returns-3 c = search (needs, in-ste-goes)
 
 pub from-ste-spec : {M : Type 1} → statement M
 from-ste-spec =
@@ -56,7 +61,7 @@ from-ste-spec =
     enum-known-place
     enum-told
     returns
-    push-requires
+    list-piece-requires
     add-next
     word-at-requires
     word-at-requires-2
