@@ -4,6 +4,7 @@ ghost use mathlib.Core.Path.{_≡_};
 ghost use Prim.Native.Nat.{_≤_, _<_};
 ghost use Rattle.book_words.specs.Layout.{blockAt, copied, half, keptAt, openedWith, otherExtent, registersOf};
 ghost use Rattle.book_words.specs.Malformed.{firstFrom};
+use answer_words::ANSWER_WORDS;
 use registers::Registers;
 
 pub mod well;
@@ -11,14 +12,14 @@ pub mod well;
 // The most slots that a book has.
 pub const SLOTS_MOST: usize = 64;
 
-// The words of a book: the number of slots, eight registers, the base and the length; a key for each
-// slot; a block for each slot.
-pub const BOOK_WORDS: usize = 1227;
+// Where the keys start: the number of slots, eight registers, the base and the length stand before them.
+pub const KEYS: usize = 11;
 
-// Where the keys and the blocks start.
-const KEYS: usize = 11;
+// Where the blocks start: a key for each slot stands before them.
+const BLOCKS: usize = KEYS + SLOTS_MOST;
 
-const BLOCKS: usize = 75;
+// The words of a book: the header, a key and a block for each slot.
+pub const BOOK_WORDS: usize = BLOCKS + SLOTS_MOST * ANSWER_WORDS;
 
 // Every word of a book that is opened.
 pub fn fill(book: &mut [u64; BOOK_WORDS], registers: Registers, base: u64, length: u64, slots: u64)
