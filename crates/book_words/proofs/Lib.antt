@@ -3,3 +3,6 @@ pub mod ScanLaws
 pub mod WordsLaws
 pub mod MarksLaws
 pub mod MalformedLaws
+pub mod KeptLaws
+pub mod WellLaws
+pub mod KeepsLaws

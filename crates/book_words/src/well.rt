@@ -5,25 +5,29 @@ ghost use Prim.Native.Nat.{_<_};
 ghost use Rattle.book_words.specs.Layout.{keyAt, slotsMost};
 ghost use Rattle.book_words.specs.Malformed.{firstFrom, refusal7, registersFit, slotWell, wellFrom};
 ghost use Rattle.book_words.specs.Marks.{Marked, markOf};
+use super::BASE_AT;
 use super::BOOK_WORDS;
 use super::KEYS;
+use super::LENGTH_AT;
+use super::REGISTERS_AT;
 use super::SLOTS_MOST;
 use ids::Request;
 use ids::Unpacked;
+use registers::REGISTER_WORDS;
 
 // The marks of refusal 7's search for equal keys: sixteen places for each slot, so that few keys share one.
 const MARKS: usize = 16 * SLOTS_MOST;
 
-// Whether the words of the seven registers of 32 bits have no more than 32.
+// Whether the words of the registers of 32 bits have no more than 32.
 fn registers_fit(book: &[u64; BOOK_WORDS]) -> bool
     ensures { λ r. ⌜ r ≡ registersFit (now (book .entry)) ⌝ }
 {
-    let mut i: usize = 1;
-    while i < 8 {
-        if !bit_fields::in_bits(book[i], 32) {
+    let mut j: usize = 0;
+    while j < REGISTER_WORDS {
+        if !bit_fields::in_bits(book[REGISTERS_AT + j], 32) {
             return false;
         }
-        i += 1;
+        j += 1;
     }
     true
 }
@@ -108,7 +112,7 @@ pub fn is_malformed(book: &[u64; BOOK_WORDS]) -> bool
     if registers.refused() {
         return true;
     }
-    if memory_image::refused(book[9], book[10]) {
+    if memory_image::refused(book[BASE_AT], book[LENGTH_AT]) {
         return true;
     }
     !slots_well(book)

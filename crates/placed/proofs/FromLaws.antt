@@ -3,6 +3,7 @@
 --     values-length, values-at     how many there are, and each of them
 --     values-same, values-list     from the same values; all of a list
 --     all-each, all-every          a test that holds of all, place by place; and back
+--     all-same                     of the same tests
 --     all-hold, one-fails, one-holds     the loop over a test
 -- Assumes: nothing.
 use Prim.Native.Nat.{ℕ, zero, suc, _+_, _-_, _≤_, _<_}
@@ -81,6 +82,12 @@ module _ (test : ℕ → Bool) where
   all-every zero i each = refl
   all-every (suc m) i each =
       rw (each i (omega arith) (omega arith)) (all-every m (i + 1) (λ j low high. each j (omega arith) (omega arith)))
+
+  pub all-same : (other : ℕ → Bool) (m i : ℕ) → ((j : ℕ) → i ≤ j → j < i + m → test j ≡ other j) → allFrom test m i ≡ allFrom other m i
+  unfolding allFrom
+  all-same other zero i same = refl
+  all-same other (suc m) i same =
+      rw (same i (omega arith) (omega arith), all-same other m (i + 1) (λ j low high. same j (omega arith) (omega arith)))
 
   -- the loop: n places, j passed
   module _ {n j : ℕ} (left : allFrom test n 0 ≡ allFrom test (n - j) j) where

@@ -4,10 +4,10 @@ use borrow.Author.Needs.{needs}
 use native.Mathlib.Omega.{arith}
 use Prim.Native.Nat.{_≤_, _-_}
 use mathlib.Core.Path.{_≡_, refl}
+use Rattle.placed.proofs.FromLaws.{all-hold, one-fails, one-holds}
 use Rattle.book_words.specs.Layout.{slotsMost}
 use Rattle.book_words.specs.Malformed.{wellFrom}
 use Rattle.book_words.specs.Marks.{Marked}
-use Rattle.book_words.proofs.ScanLaws.{all-well, one-ill, one-well}
 use Rattle.book_words.proofs.MarksLaws.{marked-none, marked-more}
 use Rattle.book_words.proofs.well.slots_well.Statement.{statement}
 use Rattle.book_words.proofs.well.slots_well.Tie as tie
@@ -23,13 +23,13 @@ loop-holds : tie.Need-loop-holds Inv-loop μ-loop
 loop-holds c = (omega arith, (refl, marked-none _))
 
 returns : tie.Need-returns Inv-loop μ-loop
-returns c = search (needs, one-ill)
+returns c = search (needs, one-fails)
 
 loop-again : tie.Need-loop-again Inv-loop μ-loop
-loop-again c = (omega arith, (search (needs, one-well), search (needs, marked-more)))
+loop-again c = (omega arith, (search (needs, one-holds), search (needs, marked-more)))
 
 returns-2 : tie.Need-returns-2 Inv-loop μ-loop
-returns-2 c = search (needs, all-well)
+returns-2 c = search (needs, all-hold)
 
 pub slots-well-spec : {M : Type 1} → statement M
 slots-well-spec =
