@@ -25,7 +25,7 @@ use Rattle.answer_words.specs.AnswerWords.{wordsOf, outcomeOf, listOf}
 use Rattle.lookup.specs.Lookup.{lookedUp}
 use Rattle.lookup.specs.declared.Looked.{Looked}
 use Rattle.lookup.specs.declared.Answer.the-variants.{Refused, Is}
-use Rattle.book_words.specs.Layout.{slotsOf, registersOf, blockAt, keptAt, openedWith, otherExtent}
+use Rattle.book_words.specs.Layout.{slotsMost, slotsOf, registersOf, blockAt, keptAt, openedWith, otherExtent}
 use Rattle.book_words.specs.Malformed.{firstFrom, refusal7}
 use Rattle.book.specs.Book.{openSays, Opened, askResult, askBook, Asks, Keeps, newLookup, refusedWith}
 use Rattle.book.specs.declared.Asked.{Asked}
@@ -52,7 +52,7 @@ module _ (r : Registers) (e : Extent) (slots : ℕ) (ws : List ℕ) {first : Boo
           }
 
       module _ (some : slots ≡ 0 → ⊥) where
-        pub open-many : 64 < slots → Opened r e slots ws (said.Refused 4) ws
+        pub open-many : slotsMost < slots → Opened r e slots ws (said.Refused 4) ws
         unfolding openSays
         open-many many =
             record {
@@ -60,7 +60,7 @@ module _ (r : Registers) (e : Extent) (slots : ℕ) (ws : List ℕ) {first : Boo
               book = simp (← is-first, passed, ← is-second, passed′, ne-eqb _ _ some, lt-ltb _ _ many);
             }
 
-        pub open-done : slots ≤ 64 → {after : List ℕ} → after ≡ openedWith r e slots → Opened r e slots ws said.Done after
+        pub open-done : slots ≤ slotsMost → {after : List ℕ} → after ≡ openedWith r e slots → Opened r e slots ws said.Done after
         unfolding openSays
         open-done few is =
             record {

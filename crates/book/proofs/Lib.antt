@@ -2,3 +2,4 @@
 pub mod ScanLaws
 pub mod AskLaws
 pub mod NoticeLaws
+pub mod StruckLaws

@@ -12,10 +12,12 @@ use mathlib.Core.List.{List}
 use borrow.Author.Tests.{eq-eqb, ne-eqb, lt-ltb, le-ltb, ltb-true, ltb-false}
 use lib.Dec.{ltb}
 use lib.ListN.{set}
+use Rattle.memory_image.specs.Extent.{addressTop}
 use Rattle.memory_image.specs.declared.Piece.{Piece}
+use Rattle.answers.specs.Pieces.{piecesMost}
 use Rattle.answers.specs.declared.Pieces.{Pieces}
 use Rattle.answer_words.specs.AnswerWords.{listOf}
-use Rattle.book_words.specs.Layout.{keyAt, blockAt}
+use Rattle.book_words.specs.Layout.{slotsMost, keysFrom, keyAt, blockAt}
 use Rattle.book_words.specs.Malformed.{refusal7}
 use Rattle.book.specs.Book.{shares, sharedFrom, touched, strike, struckFrom, noticeSays, Noticed}
 use Rattle.book.specs.declared.Said.the-variants as said
@@ -54,12 +56,12 @@ module _ (ws : List ℕ) (start size i : ℕ) where
 
   pub touch-held :
       (keyAt ws i ≡ 0 → ⊥) → {block : List ℕ} → block ≡ blockAt ws i → {list : Pieces} → list ≡ listOf block
-      → {r : Bool} → r ≡ sharedFrom start size (list .piece) (min (list .count) 4) 0 → r ≡ touched ws start size i
+      → {r : Bool} → r ≡ sharedFrom start size (list .piece) (min (list .count) piecesMost) 0 → r ≡ touched ws start size i
   unfolding touched
   touch-held held is-block is-list is = rw (is, is-list, is-block) (simp (ne-eqb _ _ held))
 
   module _ {r : Bool} (is : r ≡ touched ws start size i) where
-    pub strike-hit : r ≡ true → set ws (11 + i) 0 ≡ strike ws start size i
+    pub strike-hit : r ≡ true → set ws (keysFrom + i) 0 ≡ strike ws start size i
     unfolding strike
     strike-hit so = simp (← is, so)
 
@@ -73,21 +75,21 @@ module _ (ws : List ℕ) (start size : ℕ) {bad : Bool} (is-bad : bad ≡ refus
   notice-malformed so = record { result = simp (← is-bad, so); book = simp (← is-bad, so) }
 
   module _ (good : bad ≡ false) where
-    past : 4503599627370496 < start + size → Noticed ws start size (said.Refused 5) ws
+    past : addressTop < start + size → Noticed ws start size (said.Refused 5) ws
     unfolding noticeSays
     past is = record { result = simp (← is-bad, good, lt-ltb _ _ is); book = simp (← is-bad, good, lt-ltb _ _ is) }
 
-    pub notice-start : 4503599627370496 < start → Noticed ws start size (said.Refused 5) ws
+    pub notice-start : addressTop < start → Noticed ws start size (said.Refused 5) ws
     notice-start is = past (omega arith)
 
-    module _ (low : start ≤ 4503599627370496) where
-      pub notice-end : 4503599627370496 - start < size → Noticed ws start size (said.Refused 5) ws
+    module _ (low : start ≤ addressTop) where
+      pub notice-end : addressTop - start < size → Noticed ws start size (said.Refused 5) ws
       notice-end is = past (omega arith)
 
       pub notice-done :
-          size ≤ 4503599627370496 - start → {after : List ℕ} → after ≡ struckFrom ws start size 64 0
+          size ≤ addressTop - start → {after : List ℕ} → after ≡ struckFrom ws start size slotsMost 0
           → Noticed ws start size said.Done after
       unfolding noticeSays
       notice-done fits is =
-          let ends : start + size ≤ 4503599627370496 = omega arith in
+          let ends : start + size ≤ addressTop = omega arith in
           record { result = simp (← is-bad, good, le-ltb _ _ ends); book = is ∙ simp (← is-bad, good, le-ltb _ _ ends) }

@@ -12,7 +12,8 @@ use lib.ListN.{getD}
 use Rattle.number_laws.proofs.Scans.{left-none, left-one}
 use Rattle.bit_fields.specs.Choice.{if_then_else_}
 use Rattle.memory_image.specs.declared.Piece.{Piece}
-use Rattle.answers.specs.Pieces.{nothing}
+use Rattle.answers.specs.Pieces.{nothing, piecesMost}
+use Rattle.book_words.specs.Layout.{slotsMost}
 use Rattle.book.specs.Book.{shares, sharedFrom, strike, struckFrom}
 
 module _ (start size : ℕ) (l : List Piece) (n j : ℕ) where
@@ -27,13 +28,13 @@ module _ (start size : ℕ) (l : List Piece) (n j : ℕ) where
   shared-step more b is = rw (left-one n j more, is)
 
 -- the loop over the pieces: n of them, j passed
-module _ (start size : ℕ) (l : List Piece) (count : ℕ) {n j : ℕ} (few : n ≡ min count 4)
+module _ (start size : ℕ) (l : List Piece) (count : ℕ) {n j : ℕ} (few : n ≡ min count piecesMost)
     (left : sharedFrom start size l n 0 ≡ sharedFrom start size l (n - j) j) where
-  pub any-none : n ≤ j → false ≡ sharedFrom start size l (min count 4) 0
+  pub any-none : n ≤ j → false ≡ sharedFrom start size l (min count piecesMost) 0
   any-none past = rw (← few) (sym (left ∙ shared-end start size l n j past))
 
   module _ (more : j < n) {r : Bool} (is : r ≡ shares start size (getD l j nothing)) where
-    pub any-found : r ≡ true → true ≡ sharedFrom start size l (min count 4) 0
+    pub any-found : r ≡ true → true ≡ sharedFrom start size l (min count piecesMost) 0
     any-found so = rw (← few) (sym (left ∙ shared-step start size l n j more true (sym is ∙ so)))
 
     pub any-more : r ≡ false → sharedFrom start size l n 0 ≡ sharedFrom start size l (n - (j + 1)) (j + 1)
@@ -51,11 +52,11 @@ module _ (ws : List ℕ) (start size n i : ℕ) where
   struck-step more is = rw (left-one n i more, is)
 
 -- the loop over the slots that a notice strikes: i passed
-module _ (before ws : List ℕ) (start size : ℕ) {i : ℕ} (left : struckFrom before start size 64 0 ≡ struckFrom ws start size (64 - i) i) where
-  pub all-struck : 64 ≤ i → ws ≡ struckFrom before start size 64 0
-  all-struck past = sym (left ∙ struck-end ws start size 64 i past)
+module _ (before ws : List ℕ) (start size : ℕ) {i : ℕ} (left : struckFrom before start size slotsMost 0 ≡ struckFrom ws start size (slotsMost - i) i) where
+  pub all-struck : slotsMost ≤ i → ws ≡ struckFrom before start size slotsMost 0
+  all-struck past = sym (left ∙ struck-end ws start size slotsMost i past)
 
   pub more-struck :
       i < 64 → {next : List ℕ} → next ≡ strike ws start size i
-      → struckFrom before start size 64 0 ≡ struckFrom next start size (64 - (i + 1)) (i + 1)
-  more-struck more is = left ∙ struck-step ws start size 64 i more is
+      → struckFrom before start size slotsMost 0 ≡ struckFrom next start size (slotsMost - (i + 1)) (i + 1)
+  more-struck more is = left ∙ struck-step ws start size slotsMost i more is

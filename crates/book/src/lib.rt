@@ -2,10 +2,12 @@
 // Meets specs/Book.antt, over the words of book_words. A refused call leaves every word.
 ghost use mathlib.Core.Path.{_≡_};
 ghost use Prim.Native.Nat.{_≤_};
+ghost use Rattle.book_words.specs.Layout.{slotsMost};
 ghost use Rattle.book.specs.Book.{Asks, Keeps, Noticed, Opened, newLookup, refusedWith};
 use answers::Outcome;
 use answers::Pieces;
 use book_words::BOOK_WORDS;
+use book_words::SLOTS_MOST;
 use ids::Request;
 use lookup::Answer;
 use lookup::Looked;
@@ -52,7 +54,7 @@ pub fn open(
     if slots == 0 {
         return Said::Refused(4);
     }
-    if 64 < slots {
+    if (SLOTS_MOST as u64) < slots {
         return Said::Refused(4);
     }
     book_words::fill(book, registers, base, length, slots);
@@ -107,7 +109,7 @@ fn look_anew(
     key: u64,
     slots: usize,
 ) -> Asked
-    requires { ⌜ slots ≤ 64 ⌝ }
+    requires { ⌜ slots ≤ slotsMost ⌝ }
     ensures { λ r. ⌜ Keeps (now (book .entry)) key slots (newLookup (now (book .entry)) base (now (memory .entry)) request) r (now (book .exit)) ⌝ }
 {
     let registers = book_words::registers_of(&*book);
@@ -117,7 +119,7 @@ fn look_anew(
 
 // Keeps a new answer in the lowest empty slot, where there is one.
 fn keep(book: &mut [u64; BOOK_WORDS], key: u64, slots: usize, looked: Looked) -> Asked
-    requires { ⌜ slots ≤ 64 ⌝ }
+    requires { ⌜ slots ≤ slotsMost ⌝ }
     ensures { λ r. ⌜ Keeps (now (book .entry)) key slots looked r (now (book .exit)) ⌝ }
 {
     let answer = looked.answer;

@@ -2,9 +2,14 @@
 // Meets `shares`, `touched` and `struckFrom` of specs/Book.antt.
 ghost use mathlib.Core.Path.{_≡_};
 ghost use Prim.Native.Nat.{_<_, min};
+ghost use Rattle.answers.specs.Pieces.{piecesMost};
+ghost use Rattle.book_words.specs.Layout.{slotsMost};
 ghost use Rattle.book.specs.Book.{sharedFrom, shares, strike, struckFrom, touched};
+use answers::PIECES_MOST;
 use answers::Pieces;
 use book_words::BOOK_WORDS;
+use book_words::KEYS;
+use book_words::SLOTS_MOST;
 use memory_image::Piece;
 
 // Whether a piece and a notice share an address. It computes no sum, so nothing can wrap.
@@ -21,9 +26,9 @@ fn share(start: u64, size: u64, piece: Piece) -> bool
 
 // Whether one of the counted pieces of a list shares an address with a notice.
 fn any_shares(start: u64, size: u64, list: Pieces) -> bool
-    ensures { λ r. ⌜ r ≡ sharedFrom start size (list .piece) (min (list .count) 4) 0 ⌝ }
+    ensures { λ r. ⌜ r ≡ sharedFrom start size (list .piece) (min (list .count) piecesMost) 0 ⌝ }
 {
-    let n = bit_fields::smaller(list.count, 4) as usize;
+    let n = bit_fields::smaller(list.count, PIECES_MOST as u64) as usize;
     let piece = list.piece;
     let mut j: usize = 0;
     while j < n {
@@ -38,10 +43,10 @@ fn any_shares(start: u64, size: u64, list: Pieces) -> bool
 
 // Whether a notice strikes a slot.
 fn touches(book: &[u64; BOOK_WORDS], i: usize, start: u64, size: u64) -> bool
-    requires { ⌜ i < 64 ⌝ }
+    requires { ⌜ i < slotsMost ⌝ }
     ensures { λ r. ⌜ r ≡ touched (now (book .entry)) start size i ⌝ }
 {
-    let key = book[11 + i];
+    let key = book[KEYS + i];
     if key == 0 {
         return false;
     }
@@ -51,20 +56,20 @@ fn touches(book: &[u64; BOOK_WORDS], i: usize, start: u64, size: u64) -> bool
 }
 
 fn strike_slot(book: &mut [u64; BOOK_WORDS], i: usize, start: u64, size: u64)
-    requires { ⌜ i < 64 ⌝ }
+    requires { ⌜ i < slotsMost ⌝ }
     ensures { λ _. ⌜ now (book .exit) ≡ strike (now (book .entry)) start size i ⌝ }
 {
     if touches(&*book, i, start, size) {
-        book[11 + i] = 0;
+        book[KEYS + i] = 0;
     }
 }
 
 // Strikes every slot that a notice touches.
 pub fn strike_all(book: &mut [u64; BOOK_WORDS], start: u64, size: u64)
-    ensures { λ _. ⌜ now (book .exit) ≡ struckFrom (now (book .entry)) start size 64 0 ⌝ }
+    ensures { λ _. ⌜ now (book .exit) ≡ struckFrom (now (book .entry)) start size slotsMost 0 ⌝ }
 {
     let mut i: usize = 0;
-    while i < 64 {
+    while i < SLOTS_MOST {
         strike_slot(&mut *book, i, start, size);
         i += 1;
     }

@@ -26,15 +26,15 @@ use Rattle.lookup.specs.declared.Answer.{Answer}
 use Rattle.lookup.specs.declared.Answer.the-variants as looked
 use Rattle.lookup.proofs.Claims.{refused-exactly}
 use Rattle.book_history.specs.Claims.{NeverStale, FreshIn, StillGood, NeverMalformed, StrikesExactly, Shared, SharesMeans, LowestEmpty, KeptChangesNothing, FullChangesNothing, RefusedChangesNothing, StartsEmpty, OneOpening, OneAsk, OneNotice, lookedIn, askedAfter}
-use Rattle.book_words.specs.Layout.{slotsOf, registersOf, baseOf, lengthOf, keyAt, blockAt, otherExtent}
+use Rattle.book_words.specs.Layout.{slotsMost, bookWords, slotsOf, registersOf, baseOf, lengthOf, keyAt, blockAt, otherExtent}
 use Rattle.book_words.specs.Malformed.{firstFrom, refusal7}
 use Rattle.book.specs.Book.{slotOf, emptySlot, newly, nowHolding, refusedWith, askResult, askBook, newLookup, shares, touched, struckFrom}
 use Rattle.book_history.specs.History.{State, Step, run, Clean, Began}
 use Rattle.book.specs.declared.Asked.{Asked}
 use Rattle.book.specs.declared.Reply.the-variants.{Refused, KeptBefore, NewlyKept, NotKept}
-use Rattle.book_history.proofs.StruckLaws.{struck-else, struck-key}
-use Rattle.book_history.proofs.WellLaws.{Well, well-from, first-key, first-low}
-use Rattle.book_history.proofs.KeepsLaws.{opened-empty}
+use Rattle.book.proofs.StruckLaws.{struck-else, struck-key}
+use Rattle.book_words.proofs.WellLaws.{Well, well-from, first-key, first-low}
+use Rattle.book_words.proofs.KeepsLaws.{opened-empty}
 use Rattle.book_history.proofs.HistoryLaws.{Sound, heldIn, run-sound, open-sound}
 
 -- after any history
@@ -107,11 +107,11 @@ never-stale r base s began ts clean request narrow third =
     asked-fresh r base (run base s ts) (after r base s began ts) (still-good r base s began ts) clean request narrow third
 
 -- a notice
-pub strikes-exactly : (ws : List ℕ) (start size : ℕ) → length ws ≡ 1227 → StrikesExactly ws start size
+pub strikes-exactly : (ws : List ℕ) (start size : ℕ) → length ws ≡ bookWords → StrikesExactly ws start size
 strikes-exactly ws start size full =
     record {
-      key = λ i small. struck-key start size 64 ws 0 i full (omega arith) (omega arith) (omega arith);
-      rest = λ x other. struck-else start size 64 ws 0 x (λ j from to is. other j (omega arith) is);
+      key = λ i small. struck-key start size slotsMost ws 0 i full (omega arith) (omega arith) (omega arith);
+      rest = λ x other. struck-else start size slotsMost ws 0 x (λ j from to is. other j (omega arith) is);
     }
 
 pub shares-means : SharesMeans

@@ -5,6 +5,7 @@
 -- Assumes: nothing.
 use Prim.Native.Nat.{ℕ, zero, suc, _+_, _-_, _*_, _^_, _≤_, _<_, min, max}
 use native.Mathlib.Omega.{arith}
+use native.Mathlib.Nat.{zero-add}
 use mathlib.Core.Path.{_≡_, refl, sym, ap, _∙_}
 use mathlib.Core.Bool.{Bool, true, false, not, _&&_, _||_}
 use mathlib.Core.List.{List, [], _∷_}
@@ -13,6 +14,8 @@ use lib.Dec.{eqb, leb, ltb}
 use lib.ListN.{length, getD}
 use Rattle.number_laws.proofs.Tests.{not-both}
 use Rattle.bit_fields.specs.Choice.{if_then_else_}
+use Rattle.placed.specs.From.{valuesFrom}
+use Rattle.placed.proofs.FromLaws.{values-length, values-at}
 use Rattle.ids.specs.Ids.{refusal3}
 use Rattle.ids.specs.Packing.{packed, unpacked}
 use Rattle.ids.specs.declared.Request.{Request}
@@ -35,44 +38,33 @@ use Rattle.lookup.specs.declared.Looked.{Looked}
 use Rattle.lookup.specs.declared.Answer.{Answer}
 use Rattle.lookup.specs.declared.Answer.the-variants as looked
 use Rattle.lookup.proofs.Claims.{depends-on-list, listed-lies, answers-proper}
-use Rattle.book_words.specs.Layout.{slotsOf, registersOf, baseOf, lengthOf, keyAt, tab, blockAt, keptAt, openedWith}
+use Rattle.book_words.specs.Layout.{slotsMost, bookWords, keysFrom, slotsOf, registersOf, baseOf, lengthOf, keyAt, blockAt, keptAt, openedWith}
 use Rattle.book.specs.Book.{shares, sharedFrom, touched, struckFrom, slotOf, emptySlot, nowHolding, newLookup, askBook, openSays, noticeSays, ifDone}
 use Rattle.book_words.specs.Malformed.{refusal7}
 use Rattle.book_history.specs.History.{State, Step, edit, notice, ask, report, edited, noticedAt, stillDirty, step, run, Clean, Began}
 use Rattle.book.specs.declared.Said.{Said}
 use Rattle.book.specs.declared.Said.the-variants as said
-use Rattle.book_history.proofs.KeptLaws.{kept-length, kept-before, kept-key, kept-key-other, kept-block, kept-block-other}
-use Rattle.book_history.proofs.StruckLaws.{struck-length, struck-else}
-use Rattle.book_history.proofs.WellLaws.{held-to, first-low, Well, well-to, well-from}
-use Rattle.book_history.proofs.KeepsLaws.{registers-same, kept-well, struck-well, struck-left, struck-block, open-well, opened-length, opened-registers, opened-empty}
+use Rattle.book_words.proofs.KeptLaws.{kept-length, kept-before, kept-key, kept-key-other, kept-block, kept-block-other}
+use Rattle.book.proofs.StruckLaws.{struck-length, struck-else, struck-block, struck-left, struck-well}
+use Rattle.book_words.proofs.WellLaws.{held-to, first-low, Well, well-to, well-from}
+use Rattle.book_words.proofs.KeepsLaws.{registers-same, kept-well, open-well, opened-length, opened-registers, opened-empty}
 
 -- what a slot's block says, as a lookup would
 abbrev pub heldIn : List ℕ → Looked
 heldIn block = record { answer = looked.Is (outcomeOf block); list = listOf block }
 
 pub record Sound (r : Registers) (base : ℕ) (s : State) : Type 0 where
-  pub size : length (s .words) ≡ 1227
+  pub size : length (s .words) ≡ bookWords
   pub well : Well (s .words)
   pub registers : registersOf (s .words) ≡ r
   pub base-is : baseOf (s .words) ≡ base
   pub length-is : lengthOf (s .words) ≡ length (s .memory)
   pub fresh :
-      (i : ℕ) → i < 64 → (keyAt (s .words) i ≡ 0 → ⊥) → Clean (s .dirty) (listOf (blockAt (s .words) i))
+      (i : ℕ) → i < slotsMost → (keyAt (s .words) i ≡ 0 → ⊥) → Clean (s .dirty) (listOf (blockAt (s .words) i))
       → (request : Request) → unpacked (keyAt (s .words) i - 1) ≡ Is request
       → lookedUp r base (s .memory) request ≡ heldIn (blockAt (s .words) i)
 
 -- an edit
-tab-length : {A : Type 0} (n : ℕ) (f : ℕ → A) → length (tab n f) ≡ n
-unfolding tab
-tab-length zero f = refl
-tab-length (suc n) f = ap suc (tab-length n (λ k. f (suc k)))
-
-tab-at : (n : ℕ) (f : ℕ → ℕ) (i : ℕ) → i < n → getD (tab n f) i 0 ≡ f i
-unfolding tab
-tab-at zero f i few = absurd (omega arith)
-tab-at (suc n) f zero few = refl
-tab-at (suc n) f (suc i) few = tab-at n (λ k. f (suc k)) i (omega arith)
-
 either-not : (x y : Bool) → x || y ≡ false → (x ≡ false) × (y ≡ false)
 either-not true y is = not-both is
 either-not false y is = (refl, is)
@@ -84,7 +76,7 @@ module _ (r : Registers) (base : ℕ) (s : State) (at : ℕ → Bool) (other : L
       → getD (s .memory) (a - base) 0 ≡ getD (edited base at other (s .memory)) (a - base) 0
   kept-byte a from few out =
       let back : base + (a - base) ≡ a = omega arith in
-      sym (tab-at (length (s .memory)) _ (a - base) few ∙ rw (back, out))
+      sym (values-at _ (length (s .memory)) 0 (a - base) 0 few ∙ rw (zero-add, back, out))
 
   pub edit-sound :
       Sound r base s → Sound r base (record { memory = edited base at other (s .memory); words = s .words; dirty = λ a. at a || s .dirty a })
@@ -94,10 +86,10 @@ module _ (r : Registers) (base : ℕ) (s : State) (at : ℕ → Bool) (other : L
         well = h .well;
         registers = h .registers;
         base-is = h .base-is;
-        length-is = h .length-is ∙ sym (tab-length (length (s .memory)) _);
+        length-is = h .length-is ∙ sym (values-length _ (length (s .memory)) 0);
         fresh = λ i small held clean request is.
             let was = h .fresh i small held (λ j few a from to. either-not (at a) (s .dirty a) (clean j few a from to) .1) request is in
-            depends-on-list r base (s .memory) (edited base at other (s .memory)) request (tab-length (length (s .memory)) _)
+            depends-on-list r base (s .memory) (edited base at other (s .memory)) request (values-length _ (length (s .memory)) 0)
             (rw was (same request i was clean)) ∙ was;
       }
     where
@@ -155,12 +147,12 @@ module _ (start size : ℕ) where
         → Sound r base
         (record {
           memory = s .memory;
-          words = struckFrom (s .words) start size 64 0;
+          words = struckFrom (s .words) start size slotsMost 0;
           dirty = λ a. if noticedAt start size a then false else s .dirty a;
         })
     struck-sound h =
         record {
-          size = struck-length start size 64 (s .words) 0 ∙ h .size;
+          size = struck-length start size slotsMost (s .words) 0 ∙ h .size;
           well = struck-well (s .words) start size (h .size) (h .well);
           registers = registers-same (s .words) _ (λ x few. at x (omega arith)) ∙ h .registers;
           base-is = at 9 (omega arith) ∙ h .base-is;
@@ -168,20 +160,20 @@ module _ (start size : ℕ) where
           fresh = λ i small held clean request is. stays i small held clean request is;
         }
       where
-        at : (x : ℕ) → x < 11 → getD (struckFrom (s .words) start size 64 0) x 0 ≡ getD (s .words) x 0
-        at x few = struck-else start size 64 (s .words) 0 x (λ j from to is. omega arith)
+        at : (x : ℕ) → x < keysFrom → getD (struckFrom (s .words) start size slotsMost 0) x 0 ≡ getD (s .words) x 0
+        at x few = struck-else start size slotsMost (s .words) 0 x (λ j from to is. omega arith)
 
-        same-block : (i : ℕ) → blockAt (struckFrom (s .words) start size 64 0) i ≡ blockAt (s .words) i
+        same-block : (i : ℕ) → blockAt (struckFrom (s .words) start size slotsMost 0) i ≡ blockAt (s .words) i
         same-block i = struck-block (s .words) start size (h .size) (h .well) i
 
         clear : (a : ℕ) → noticedAt start size a ≡ false → (if noticedAt start size a then false else s .dirty a) ≡ false → s .dirty a ≡ false
         clear a out is = rw out at is
 
         stays :
-            (i : ℕ) → i < 64 → (keyAt (struckFrom (s .words) start size 64 0) i ≡ 0 → ⊥)
-            → Clean (λ a. if noticedAt start size a then false else s .dirty a) (listOf (blockAt (struckFrom (s .words) start size 64 0) i))
-            → (request : Request) → unpacked (keyAt (struckFrom (s .words) start size 64 0) i - 1) ≡ Is request
-            → lookedUp r base (s .memory) request ≡ heldIn (blockAt (struckFrom (s .words) start size 64 0) i)
+            (i : ℕ) → i < slotsMost → (keyAt (struckFrom (s .words) start size slotsMost 0) i ≡ 0 → ⊥)
+            → Clean (λ a. if noticedAt start size a then false else s .dirty a) (listOf (blockAt (struckFrom (s .words) start size slotsMost 0) i))
+            → (request : Request) → unpacked (keyAt (struckFrom (s .words) start size slotsMost 0) i - 1) ≡ Is request
+            → lookedUp r base (s .memory) request ≡ heldIn (blockAt (struckFrom (s .words) start size slotsMost 0) i)
         stays i small held clean request is =
             let left = struck-left (s .words) start size (h .size) (h .well) i small held in
             let was-held : keyAt (s .words) i ≡ 0 → ⊥ = λ none. held (left .1 ∙ none) in
@@ -197,10 +189,10 @@ module _ (start size : ℕ) where
 
 -- an ask that is kept
 module _ (r : Registers) (base : ℕ) (s : State) (h : Sound r base s) (request : Request) (j : ℕ) (room : j < slotsOf (s .words))
-    (new : (i : ℕ) → i < 64 → keyAt (s .words) i ≡ packed request + 1 → ⊥)
+    (new : (i : ℕ) → i < slotsMost → keyAt (s .words) i ≡ packed request + 1 → ⊥)
     (is-request : unpacked (packed request) ≡ Is request) {outcome : Outcome} {l : Pieces}
     (said : lookedUp r base (s .memory) request ≡ record { answer = looked.Is outcome; list = l }) where
-  small-slot : j < 64
+  small-slot : j < slotsMost
   small-slot = omega (arith, h .well .few)
 
   block : List ℕ
@@ -234,11 +226,11 @@ module _ (r : Registers) (base : ℕ) (s : State) (h : Sound r base s) (request 
       after : List ℕ
       after = keptAt (s .words) j (packed request + 1) (wordsOf outcome l)
 
-      at : (x : ℕ) → x < 11 → getD after x 0 ≡ getD (s .words) x 0
+      at : (x : ℕ) → x < keysFrom → getD after x 0 ≡ getD (s .words) x 0
       at x few = kept-before (s .words) j (packed request + 1) (wordsOf outcome l) (h .size) small-slot x (omega arith) (λ e. omega arith)
 
       slot :
-          (i : ℕ) → i < 64 → (keyAt after i ≡ 0 → ⊥) → Clean (s .dirty) (listOf (blockAt after i)) → (q : Request)
+          (i : ℕ) → i < slotsMost → (keyAt after i ≡ 0 → ⊥) → Clean (s .dirty) (listOf (blockAt after i)) → (q : Request)
           → unpacked (keyAt after i - 1) ≡ Is q → (t : Bool) → eqb i j ≡ t → lookedUp r base (s .memory) q ≡ heldIn (blockAt after i)
       slot i small held clean q is true e =
           let here : i ≡ j = eqb-true i j e in
@@ -264,7 +256,7 @@ module _ (r : Registers) (base : ℕ) (s : State) (h : Sound r base s) (request 
   ws = s .words
 
   -- no slot has the request's key where the search finds none
-  unheld : slotsOf (s .words) ≤ slotOf (s .words) request → (i : ℕ) → i < 64 → keyAt (s .words) i ≡ packed request + 1 → ⊥
+  unheld : slotsOf (s .words) ≤ slotOf (s .words) request → (i : ℕ) → i < slotsMost → keyAt (s .words) i ≡ packed request + 1 → ⊥
   unheld past i small is =
       let held : keyAt (s .words) i ≡ 0 → ⊥ = λ none. omega arith in
       let inside = held-to (s .words) i small (h .well .slots i small) held .inside in
@@ -339,7 +331,7 @@ notice-sound r base s start size h = go (noticeSays (s .words) start size)
         → Sound r base
         (record {
           memory = s .memory;
-          words = ifDone says (s .words) (struckFrom (s .words) start size 64 0);
+          words = ifDone says (s .words) (struckFrom (s .words) start size slotsMost 0);
           dirty = stillDirty says start size (s .dirty);
         })
     go (said.Refused n) = h
@@ -358,22 +350,22 @@ run-sound r base (t ∷ ts) s h = run-sound r base ts (step base s t) (step-soun
 -- an accepted opening has passed its refusals
 accepted-parts :
     (r : Registers) (e : Extent) (slots : ℕ) → openSays r e slots ≡ said.Done
-    → (refusal1 r ≡ false) × (refusal2 e ≡ false) × (slots ≡ 0 → ⊥) × (slots ≤ 64)
+    → (refusal1 r ≡ false) × (refusal2 e ≡ false) × (slots ≡ 0 → ⊥) × (slots ≤ slotsMost)
 unfolding openSays
-accepted-parts r e slots is = go (refusal1 r) refl (refusal2 e) refl (eqb slots 0) refl (ltb 64 slots) refl is
+accepted-parts r e slots is = go (refusal1 r) refl (refusal2 e) refl (eqb slots 0) refl (ltb slotsMost slots) refl is
   where
     refused : {A : Type 0} {n : ℕ} → said.Refused n ≡ said.Done → A
     refused e = let z : _≡_ {A = ℕ} 0 1 = cc in absurd (omega arith)
 
     go :
-        (a : Bool) → refusal1 r ≡ a → (b : Bool) → refusal2 e ≡ b → (c : Bool) → eqb slots 0 ≡ c → (d : Bool) → ltb 64 slots ≡ d
+        (a : Bool) → refusal1 r ≡ a → (b : Bool) → refusal2 e ≡ b → (c : Bool) → eqb slots 0 ≡ c → (d : Bool) → ltb slotsMost slots ≡ d
         → (if a then said.Refused 1 else if b then said.Refused 2 else if c || d then said.Refused 4 else said.Done) ≡ said.Done
-        → (refusal1 r ≡ false) × (refusal2 e ≡ false) × (slots ≡ 0 → ⊥) × (slots ≤ 64)
+        → (refusal1 r ≡ false) × (refusal2 e ≡ false) × (slots ≡ 0 → ⊥) × (slots ≤ slotsMost)
     go true a b b′ c c′ d d′ is = refused is
     go false a true b′ c c′ d d′ is = refused is
     go false a false b′ true c′ d d′ is = refused is
     go false a false b′ false c′ true d′ is = refused is
-    go false a false b′ false c′ false d′ is = (a, b′, eqb-false slots 0 c′, ltb-false 64 slots d′)
+    go false a false b′ false c′ false d′ is = (a, b′, eqb-false slots 0 c′, ltb-false slotsMost slots d′)
 
 pub open-sound : (r : Registers) (base : ℕ) (s : State) → Began r base s → Sound r base s
 unfolding openedWith

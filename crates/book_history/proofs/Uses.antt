@@ -12,7 +12,7 @@ use Rattle.bit_fields.specs.Choice.{if_then_else_}
 use Rattle.memory_image.specs.declared.Piece.{Piece}
 use Rattle.answers.specs.Pieces.{nothing}
 use Rattle.answer_words.specs.AnswerWords.{listOf}
-use Rattle.book_words.specs.Layout.{slotsOf, keyAt, blockAt, openedWith}
+use Rattle.book_words.specs.Layout.{slotsMost, keysFrom, blocksFrom, slotsOf, keyAt, blockAt, openedWith}
 use Rattle.book_words.specs.Malformed.{refusal7}
 use Rattle.book.specs.Book.{emptySlot, askResult, noticeSays, shares, sharedFrom, touched, struckFrom}
 use Rattle.book_history.specs.History.{run}
@@ -58,21 +58,21 @@ none-touched ws start i = rw (none-shared start (listOf (blockAt ws i) .piece) (
     and-false false = refl
 
 pub empty-notice-strikes-nothing : EmptyNoticeStrikesNothing
-empty-notice-strikes-nothing ws start x full = go (ltb x 11) (ltb x 75) refl refl
+empty-notice-strikes-nothing ws start x full = go (ltb x keysFrom) (ltb x blocksFrom) refl refl
   where
     exactly : StrikesExactly ws start 0
     exactly = strikes-exactly ws start 0 full
 
-    go : (a b : Bool) → ltb x 11 ≡ a → ltb x 75 ≡ b → getD (struckFrom ws start 0 64 0) x 0 ≡ getD ws x 0
-    go true b low high = exactly .rest x (λ i small is. let l : x < 11 = ltb-true _ _ low in omega arith)
+    go : (a b : Bool) → ltb x keysFrom ≡ a → ltb x blocksFrom ≡ b → getD (struckFrom ws start 0 slotsMost 0) x 0 ≡ getD ws x 0
+    go true b low high = exactly .rest x (λ i small is. let l : x < keysFrom = ltb-true _ _ low in omega arith)
     go false true low high =
-        let l : 11 ≤ x = ltb-false _ _ low in
-        let h : x < 75 = ltb-true _ _ high in
-        let e : 11 + (x - 11) ≡ x = omega arith in
-        let k : keyAt (struckFrom ws start 0 64 0) (x - 11) ≡ keyAt ws (x - 11)
-        = exactly .key (x - 11) (omega arith) ∙ simp (none-touched ws start (x - 11)) in
+        let l : keysFrom ≤ x = ltb-false _ _ low in
+        let h : x < blocksFrom = ltb-true _ _ high in
+        let e : keysFrom + (x - keysFrom) ≡ x = omega arith in
+        let k : keyAt (struckFrom ws start 0 slotsMost 0) (x - keysFrom) ≡ keyAt ws (x - keysFrom)
+        = exactly .key (x - keysFrom) (omega arith) ∙ simp (none-touched ws start (x - keysFrom)) in
         rw e at k
-    go false false low high = exactly .rest x (λ i small is. let h : 75 ≤ x = ltb-false _ _ high in omega arith)
+    go false false low high = exactly .rest x (λ i small is. let h : blocksFrom ≤ x = ltb-false _ _ high in omega arith)
 
 pub nothing-held-at-first : NothingHeldAtFirst
 unfolding touched

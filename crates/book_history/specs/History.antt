@@ -10,12 +10,14 @@ use lib.Dec.{leb, ltb}
 use lib.ListN.{getD, length}
 use Rattle.bit_fields.specs.Choice.{if_then_else_}
 use Rattle.ids.specs.declared.Request.{Request}
+use Rattle.placed.specs.From.{valuesFrom}
+use Rattle.registers.specs.Words.{Narrow}
 use Rattle.registers.specs.declared.Registers.{Registers}
 use Rattle.memory_image.specs.Extent.{extentOf}
 use Rattle.memory_image.specs.declared.Piece.{Piece}
 use Rattle.answers.specs.Pieces.{EachPiece}
 use Rattle.answers.specs.declared.Pieces.{Pieces}
-use Rattle.book_words.specs.Layout.{slotsMost, tab, openedWith}
+use Rattle.book_words.specs.Layout.{slotsMost, openedWith}
 use Rattle.book.specs.Book.{ifDone, openSays, noticeSays, struckFrom, askBook, newLookup}
 use Rattle.book.specs.declared.Said.{Said}
 use Rattle.book.specs.declared.Said.the-variants.{Done, Refused}
@@ -37,7 +39,7 @@ pub data Step : Type 0 where
   report : Step
 
 abbrev pub edited : ℕ → (ℕ → Bool) → List ℕ → List ℕ → List ℕ
-edited base at other memory = tab (length memory) (λ i. if at (base + i) then getD other i 0 else getD memory i 0)
+edited base at other memory = valuesFrom (λ i. if at (base + i) then getD other i 0 else getD memory i 0) (length memory) 0
 
 -- an address is one of a notice's
 abbrev pub noticedAt : ℕ → ℕ → ℕ → Bool
@@ -73,16 +75,6 @@ run base s (t ∷ ts) = run base (step base s t) ts
 -- no address of a list is dirty
 abbrev pub Clean : (ℕ → Bool) → Pieces → Type 0
 Clean dirty l = EachPiece (λ p. (a : ℕ) → p .address ≤ a → a < p .address + p .length → dirty a ≡ false) l
-
--- the registers of 32 bits have no more, as their type says
-pub record Narrow (r : Registers) : Type 0 where
-  pub idr0 : r .idr0 < 2 ^ 32
-  pub idr1 : r .idr1 < 2 ^ 32
-  pub idr5 : r .idr5 < 2 ^ 32
-  pub cr0 : r .cr0 < 2 ^ 32
-  pub cr2 : r .cr2 < 2 ^ 32
-  pub gbpa : r .gbpa < 2 ^ 32
-  pub strtab-base-cfg : r .«strtab_base_cfg» < 2 ^ 32
 
 -- the book was opened, and accepted, with today's memory extent; what was edited before doesn't matter
 pub record Began (r : Registers) (base : ℕ) (s : State) : Type 0 where

@@ -1,7 +1,6 @@
 -- Refusal 7, by the tests that the code makes.
---     all-fit, one-wide, one-fits    the registers' words, in a loop
 --     slot-empty, slot-past, slot-none, slot-twice, slot-answer     one slot
---     few-slots                  a book that is not refused has at most 64 slots
+--     few-slots                  a book that is not refused has at most slotsMost slots
 --     bad-none, bad-many, bad-word, bad-registers, bad-extent, bad-slots     the row
 -- Assumes: nothing.
 use Prim.Native.Nat.{ℕ, _+_, _-_, _≤_, _<_}
@@ -14,7 +13,6 @@ use lib.Dec.{eqb, ltb}
 use lib.ListN.{getD}
 use Rattle.number_laws.proofs.Tests.{not-both}
 use Rattle.bit_fields.specs.Choice.{if_then_else_}
-use Rattle.bit_fields.specs.Bits.{inBits}
 use Rattle.ids.specs.Packing.{unpacked}
 use Rattle.ids.specs.declared.Request.{Request}
 use Rattle.ids.specs.declared.Unpacked.{Unpacked}
@@ -23,24 +21,8 @@ use Rattle.registers.specs.Sizes.{refusal1}
 use Rattle.registers.specs.declared.Registers.{Registers}
 use Rattle.memory_image.specs.Extent.{refusal2}
 use Rattle.answer_words.specs.AnswerWords.{stands}
-use Rattle.book_words.specs.Layout.{slotsOf, registersOf, extentHeld, keyAt, blockAt}
-use Rattle.book_words.specs.Malformed.{firstFrom, slotWell, wellFrom, narrowFrom, registersFit, refusal7}
-use Rattle.number_laws.proofs.Scans.{left-none, left-one}
-
--- the loop over the registers' words: i passed
-module _ (ws : List ℕ) {i : ℕ} (left : registersFit ws ≡ narrowFrom ws (8 - i) i) where
-  pub all-fit : 8 ≤ i → true ≡ registersFit ws
-  unfolding narrowFrom
-  all-fit past = sym (left ∙ rw (left-none 8 i past))
-
-  module _ (more : i < 8) {r : Bool} (is : r ≡ inBits (getD ws i 0) 32) where
-    pub one-wide : not r ≡ true → false ≡ registersFit ws
-    unfolding narrowFrom
-    one-wide so = sym (left ∙ rw (left-one 8 i more, ← is, not-true r so))
-
-    pub one-fits : not r ≡ false → registersFit ws ≡ narrowFrom ws (8 - (i + 1)) (i + 1)
-    unfolding narrowFrom
-    one-fits so = left ∙ rw (left-one 8 i more, ← is, not-false r so)
+use Rattle.book_words.specs.Layout.{slotsMost, slotsOf, registersOf, extentHeld, keyAt, blockAt}
+use Rattle.book_words.specs.Malformed.{firstFrom, slotWell, wellFrom, registersFit, refusal7}
 
 module _ (ws : List ℕ) (i : ℕ) where
   pub slot-empty : keyAt ws i ≡ 0 → true ≡ slotWell ws i
@@ -57,7 +39,7 @@ module _ (ws : List ℕ) (i : ℕ) where
       unfolding slotWell
       slot-none none = simp (ne-eqb _ _ held, lt-leb _ _ inside, ← is, none)
 
-      module _ {request : Request} (some : said ≡ Is request) {first : ℕ} (found : first ≡ firstFrom ws (keyAt ws i) 64 0) where
+      module _ {request : Request} (some : said ≡ Is request) {first : ℕ} (found : first ≡ firstFrom ws (keyAt ws i) slotsMost 0) where
         pub slot-twice : (first ≡ i → ⊥) → false ≡ slotWell ws i
         unfolding slotWell
         slot-twice other = simp (ne-eqb _ _ held, lt-leb _ _ inside, ← is, some, ← found, ne-eqb _ _ other)
@@ -74,11 +56,11 @@ module _ (ws : List ℕ) where
   bad-none none = simp (eq-eqb _ _ none)
 
   module _ (some : slotsOf ws ≡ 0 → ⊥) where
-    pub bad-many : 64 < slotsOf ws → true ≡ refusal7 ws
+    pub bad-many : slotsMost < slotsOf ws → true ≡ refusal7 ws
     unfolding refusal7
     bad-many many = simp (ne-eqb _ _ some, lt-ltb _ _ many)
 
-    module _ (few : slotsOf ws ≤ 64) {fit : Bool} (is-fit : fit ≡ registersFit ws) where
+    module _ (few : slotsOf ws ≤ slotsMost) {fit : Bool} (is-fit : fit ≡ registersFit ws) where
       pub bad-word : not fit ≡ true → true ≡ refusal7 ws
       unfolding refusal7
       bad-word bad = simp (ne-eqb _ _ some, le-ltb _ _ few, ← is-fit, not-true fit bad)
@@ -94,31 +76,31 @@ module _ (ws : List ℕ) where
           bad-extent bad =
               simp (ne-eqb _ _ some, le-ltb _ _ few, ← is-fit, not-false fit fits, ← is-r, ← is-first, passed, ← is-second, bad)
 
-          pub bad-slots : second ≡ false → {well : Bool} → well ≡ wellFrom ws 64 0 → not well ≡ refusal7 ws
+          pub bad-slots : second ≡ false → {well : Bool} → well ≡ wellFrom ws slotsMost 0 → not well ≡ refusal7 ws
           unfolding refusal7
           bad-slots good is =
               rw is
               (simp (ne-eqb _ _ some, le-ltb _ _ few, ← is-fit, not-false fit fits, ← is-r, ← is-first, passed, ← is-second, good))
 
-few-at-most : (ws : List ℕ) → refusal7 ws ≡ false → slotsOf ws ≤ 64
+few-at-most : (ws : List ℕ) → refusal7 ws ≡ false → slotsOf ws ≤ slotsMost
 unfolding refusal7
-few-at-most ws is = go (eqb (slotsOf ws) 0) (ltb 64 (slotsOf ws)) refl is
+few-at-most ws is = go (eqb (slotsOf ws) 0) (ltb slotsMost (slotsOf ws)) refl is
   where
     rest : Bool
     rest =
         if not (registersFit ws) then true
         else if refusal1 (registersOf ws) then true
         else if refusal2 (extentHeld ws) then true
-        else not (wellFrom ws 64 0)
+        else not (wellFrom ws slotsMost 0)
 
     go :
-        (a b : Bool) → ltb 64 (slotsOf ws) ≡ b → (if a then true else if b then true else rest) ≡ false → slotsOf ws ≤ 64
+        (a b : Bool) → ltb slotsMost (slotsOf ws) ≡ b → (if a then true else if b then true else rest) ≡ false → slotsOf ws ≤ slotsMost
     go true b test is = not-both is
     go false true test is = not-both is
-    go false false test is = ltb-false 64 (slotsOf ws) test
+    go false false test is = ltb-false slotsMost (slotsOf ws) test
 
-pub few-slots : (ws : List ℕ) {bad : Bool} → bad ≡ refusal7 ws → bad ≡ false → slotsOf ws ≤ 64
+pub few-slots : (ws : List ℕ) {bad : Bool} → bad ≡ refusal7 ws → bad ≡ false → slotsOf ws ≤ slotsMost
 few-slots ws is good = few-at-most ws (sym is ∙ good)
 
-pub slot-below : (ws : List ℕ) (slot : ℕ) {bad : Bool} → bad ≡ refusal7 ws → bad ≡ false → slot < slotsOf ws → slot < 64
+pub slot-below : (ws : List ℕ) (slot : ℕ) {bad : Bool} → bad ≡ refusal7 ws → bad ≡ false → slot < slotsOf ws → slot < slotsMost
 slot-below ws slot is good held = omega (arith, few-slots ws is good)

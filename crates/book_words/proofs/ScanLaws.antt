@@ -1,20 +1,16 @@
 -- One step of each scan that is defined by what is left, under the test that the code makes.
 --     first-end, first-hit, first-miss     the search for a key
 --     first-none, first-found, first-more  its loop
---     well-end, well-step              the slots one by one
---     all-well, one-ill, one-well      the loop over the slots
 --     copy-end, copy-step              the words of a block
 -- Assumes: nothing.
 use Prim.Native.Nat.{ℕ, _+_, _-_, _≤_, _<_}
 use mathlib.Core.Path.{_≡_, sym, _∙_}
-use mathlib.Core.Bool.{Bool, true, false, not}
 use mathlib.Core.List.{List}
-use borrow.Author.Tests.{eq-eqb, ne-eqb, not-true, not-false}
+use borrow.Author.Tests.{eq-eqb, ne-eqb}
 use lib.ListN.{getD, set}
 use Rattle.number_laws.proofs.Scans.{left-none, left-one}
-use Rattle.bit_fields.specs.Choice.{if_then_else_}
 use Rattle.book_words.specs.Layout.{keyAt, copied}
-use Rattle.book_words.specs.Malformed.{firstFrom, slotWell, wellFrom}
+use Rattle.book_words.specs.Malformed.{firstFrom}
 
 module _ (ws : List ℕ) (x n i : ℕ) where
   pub first-end : n ≤ i → firstFrom ws x (n - i) i ≡ i
@@ -39,28 +35,6 @@ module _ (ws : List ℕ) (x n : ℕ) {i : ℕ} (left : firstFrom ws x n 0 ≡ fi
 
   pub first-more : i < n → (keyAt ws i ≡ x → ⊥) → firstFrom ws x n 0 ≡ firstFrom ws x (n - (i + 1)) (i + 1)
   first-more more is = left ∙ first-miss ws x n i more is
-
-module _ (ws : List ℕ) (n i : ℕ) where
-  pub well-end : n ≤ i → wellFrom ws (n - i) i ≡ true
-  unfolding wellFrom
-  well-end past = rw (left-none n i past)
-
-  pub well-step :
-      i < n → (b : Bool) → slotWell ws i ≡ b → wellFrom ws (n - i) i ≡ (if b then wellFrom ws (n - (i + 1)) (i + 1) else false)
-  unfolding wellFrom
-  well-step more b is = rw (left-one n i more, is)
-
--- the loop over the slots: i passed
-module _ (ws : List ℕ) {i : ℕ} (left : wellFrom ws 64 0 ≡ wellFrom ws (64 - i) i) where
-  pub all-well : 64 ≤ i → true ≡ wellFrom ws 64 0
-  all-well past = sym (left ∙ well-end ws 64 i past)
-
-  module _ (more : i < 64) {r : Bool} (is : r ≡ slotWell ws i) where
-    pub one-ill : not r ≡ true → false ≡ wellFrom ws 64 0
-    one-ill so = sym (left ∙ well-step ws 64 i more false (sym is ∙ not-true r so))
-
-    pub one-well : not r ≡ false → wellFrom ws 64 0 ≡ wellFrom ws (64 - (i + 1)) (i + 1)
-    one-well so = left ∙ well-step ws 64 i more true (sym is ∙ not-false r so)
 
 module _ (ws vs : List ℕ) (b n j : ℕ) where
   pub copy-end : n ≤ j → copied ws b vs (n - j) j ≡ ws

@@ -1,25 +1,83 @@
--- The header read, as the code reads it.
+-- The header written, and read as the code reads it.
 --     other-is          refusal 6's test
 --     registers-is      the registers from their words
+--     block-is          a block from its words
+--     Opening, opening-starts, opening-more, opening-ends     every word of a book that is opened
 -- Assumes: nothing.
-use Prim.Native.Nat.{ℕ}
-use mathlib.Core.Path.{_≡_}
+use Prim.Native.Nat.{ℕ, _+_, _-_, _*_, _≤_, _<_}
+use native.Mathlib.Omega.{arith}
+use mathlib.Core.Path.{_≡_, refl, sym, ap, _∙_}
 use mathlib.Core.Bool.{Bool, not, _&&_}
-use mathlib.Core.List.{List}
+use mathlib.Core.List.{List, [], _∷_, _++_}
 use lib.Dec.{eqb}
-use lib.ListN.{getD}
+use lib.ListN.{getD, set, length, replicate}
+use Rattle.placed.specs.From.{valuesFrom, from}
+use Rattle.placed.specs.Placed.{Left}
+use Rattle.placed.proofs.PlacedLaws.{placed-zeros}
+use Rattle.placed.proofs.LeftLaws.{left-all, left-one, left-placed}
+use Rattle.placed.proofs.FilledLaws.{Filled, filled-all, value-put, values-put}
+use Rattle.registers.specs.Words.{registerWords, registersFrom, wordsOfRegisters}
 use Rattle.registers.specs.declared.Registers.{Registers}
-use Rattle.book_words.specs.Layout.{half, registersOf}
-use Rattle.book_words.specs.Layout.{otherExtent}
+use Rattle.memory_image.specs.Extent.{Extent}
+use Rattle.answer_words.specs.AnswerWords.{answerWords}
+use Rattle.book_words.specs.Layout.{
+  slotsMost,
+  bookWords,
+  blockFrom,
+  blockAt,
+  registersAt,
+  strtabBaseAt,
+  baseAt,
+  lengthAt,
+  lowWord,
+  registersOf,
+  headerWith,
+  openedWith,
+  otherExtent,
+}
 
 module _ (ws : List ℕ) where
   pub other-is :
-      (base size : ℕ) {same : Bool} → same ≡ (eqb base (getD ws 9 0) && eqb size (getD ws 10 0)) → not same ≡ otherExtent ws base size
+      (base size : ℕ) {same : Bool} → same ≡ (eqb base (getD ws baseAt 0) && eqb size (getD ws lengthAt 0))
+      → not same ≡ otherExtent ws base size
   other-is base size is = rw is
 
   pub registers-is :
-      {a b c d e f g : ℕ} → a ≡ half (getD ws 1 0) → b ≡ half (getD ws 2 0) → c ≡ half (getD ws 3 0) → d ≡ half (getD ws 4 0)
-      → e ≡ half (getD ws 5 0) → f ≡ half (getD ws 6 0) → g ≡ half (getD ws 7 0)
-      → record { idr0 = a; idr1 = b; idr5 = c; cr0 = d; cr2 = e; gbpa = f; «strtab_base» = getD ws 8 0; «strtab_base_cfg» = g } ≡ registersOf ws
+      {words : List ℕ} {j : ℕ} → Filled (λ k. lowWord (getD ws (registersAt + k) 0)) registerWords words j → registerWords ≤ j
+      → {r : Registers} → r ≡ registersFrom words (getD ws strtabBaseAt 0) → r ≡ registersOf ws
   unfolding registersOf
-  registers-is is-a is-b is-c is-d is-e is-f is-g = rw (is-a, is-b, is-c, is-d, is-e, is-f, is-g)
+  registers-is filled past from-words = rw (from-words, filled-all _ registerWords filled past)
+
+  pub block-is :
+      (i : ℕ) {words : List ℕ} {j : ℕ} → Filled (λ k. getD ws (blockFrom i + k) 0) answerWords words j → answerWords ≤ j → words ≡ blockAt ws i
+  unfolding blockAt
+  block-is i filled past = filled-all _ answerWords filled past
+
+-- a book that is opened: the words put one after the other into zeros, until none of the header's is left
+module _ (r : Registers) (e : Extent) (slots : ℕ) where
+  -- the number of slots was put, and j registers
+  abbrev pub Opening : List ℕ → ℕ → Type 0
+  Opening now j =
+      Left (replicate bookWords 0) 0 (headerWith r e slots) now (registersAt + j)
+      (from (wordsOfRegisters r) (registerWords - j) j ++ (r .«strtab_base» ∷ (e .base ∷ (e .length ∷ []))))
+
+  pub opening-starts : Opening (set (replicate bookWords 0) 0 slots) 0
+  unfolding valuesFrom
+  opening-starts = left-one (left-all (replicate bookWords 0) 0 (headerWith r e slots) (omega arith)) slots _ refl refl
+
+  module _ {now : List ℕ} {j : ℕ} (so-far : Opening now j) where
+    pub opening-more :
+        j < registerWords → {words : List ℕ} → words ≡ wordsOfRegisters r → Opening (set now (registersAt + j) (getD words j 0)) (j + 1)
+    opening-more more is = value-put _ registerWords j _ so-far more (rw is) (omega arith)
+
+    pub opening-ends :
+        j ≤ registerWords → registerWords ≤ j
+        → set (set (set now strtabBaseAt (r .«strtab_base»)) baseAt (e .base)) lengthAt (e .length) ≡ openedWith r e slots
+    unfolding openedWith
+    opening-ends most least =
+        let all : j ≡ registerWords = omega arith in
+        let left = values-put _ registerWords j _ so-far least in
+        left-placed
+        (left-one (left-one (left-one (rw all at left) (r .«strtab_base») _ refl refl) (e .base) _ refl refl) (e .length) [] refl refl)
+        refl
+        ∙ placed-zeros (headerWith r e slots) (slotsMost + slotsMost * answerWords)

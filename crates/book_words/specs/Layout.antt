@@ -1,5 +1,6 @@
 -- The book's words (design: a header, one column of keys, a block for each slot).
---     slotsMost, keysFrom, blocksFrom, bookWords    where each part stands
+--     slotsMost, bookWords                          the sizes
+--     registersAt .. keysFrom, blocksFrom           where each part stands
 --     slotsOf, registersOf, baseOf, lengthOf        the header, as read
 --     keyAt, blockAt                                the key and the block of a slot
 --     keyOf                                         the key of a request: 0 is an empty slot's
@@ -9,11 +10,13 @@
 -- Assumes: nothing.
 use Prim.Native.Nat.{ℕ, zero, suc, _+_, _*_, _%_, _^_}
 use mathlib.Core.Bool.{Bool, not, _&&_}
-use mathlib.Core.List.{List, [], _∷_}
+use mathlib.Core.List.{List, [], _∷_, _++_}
 use lib.Dec.{eqb}
 use lib.ListN.{getD, set, replicate}
 use Rattle.ids.specs.Packing.{packed}
 use Rattle.ids.specs.declared.Request.{Request}
+use Rattle.placed.specs.From.{valuesFrom}
+use Rattle.registers.specs.Words.{registerWords, registersFrom, wordsOfRegisters}
 use Rattle.registers.specs.declared.Registers.{Registers}
 use Rattle.memory_image.specs.Extent.{Extent}
 use Rattle.answer_words.specs.AnswerWords.{answerWords}
@@ -21,9 +24,21 @@ use Rattle.answer_words.specs.AnswerWords.{answerWords}
 abbrev pub slotsMost : ℕ
 slotsMost = 64
 
--- word 0 is the number of slots, words 1 to 7 the registers of 32 bits, 8 the one of 64, 9 the base, 10 the length
+-- the header: word 0 is the number of slots; then the registers of 32 bits, STRTAB_BASE, the memory's base and its length
+abbrev pub registersAt : ℕ
+registersAt = 1
+
+abbrev pub strtabBaseAt : ℕ
+strtabBaseAt = registersAt + registerWords
+
+abbrev pub baseAt : ℕ
+baseAt = strtabBaseAt + 1
+
+abbrev pub lengthAt : ℕ
+lengthAt = baseAt + 1
+
 abbrev pub keysFrom : ℕ
-keysFrom = 11
+keysFrom = lengthAt + 1
 
 abbrev pub blocksFrom : ℕ
 blocksFrom = keysFrom + slotsMost
@@ -35,27 +50,18 @@ abbrev pub slotsOf : List ℕ → ℕ
 slotsOf ws = getD ws 0 0
 
 -- a register's word, as its 32 bits hold it
-abbrev pub half : ℕ → ℕ
-half word = word % 2 ^ 32
+abbrev pub lowWord : ℕ → ℕ
+lowWord word = word % 2 ^ 32
 
 unfoldable pub registersOf : List ℕ → Registers
 registersOf ws =
-    record {
-      idr0 = half (getD ws 1 0);
-      idr1 = half (getD ws 2 0);
-      idr5 = half (getD ws 3 0);
-      cr0 = half (getD ws 4 0);
-      cr2 = half (getD ws 5 0);
-      gbpa = half (getD ws 6 0);
-      «strtab_base» = getD ws 8 0;
-      «strtab_base_cfg» = half (getD ws 7 0);
-    }
+    registersFrom (valuesFrom (λ j. lowWord (getD ws (registersAt + j) 0)) registerWords 0) (getD ws strtabBaseAt 0)
 
 abbrev pub baseOf : List ℕ → ℕ
-baseOf ws = getD ws 9 0
+baseOf ws = getD ws baseAt 0
 
 abbrev pub lengthOf : List ℕ → ℕ
-lengthOf ws = getD ws 10 0
+lengthOf ws = getD ws lengthAt 0
 
 abbrev pub extentHeld : List ℕ → Extent
 extentHeld ws = record { base = baseOf ws; length = lengthOf ws }
@@ -63,16 +69,11 @@ extentHeld ws = record { base = baseOf ws; length = lengthOf ws }
 abbrev pub keyAt : List ℕ → ℕ → ℕ
 keyAt ws i = getD ws (keysFrom + i) 0
 
--- the first n values of f
-unfoldable pub tab : {A : Type 0} → ℕ → (ℕ → A) → List A
-tab zero f = []
-tab (suc n) f = f 0 ∷ tab n (λ k. f (suc k))
-
 abbrev pub blockFrom : ℕ → ℕ
 blockFrom i = blocksFrom + answerWords * i
 
 unfoldable pub blockAt : List ℕ → ℕ → List ℕ
-blockAt ws i = tab answerWords (λ j. getD ws (blockFrom i + j) 0)
+blockAt ws i = valuesFrom (λ j. getD ws (blockFrom i + j) 0) answerWords 0
 
 abbrev pub keyOf : Request → ℕ
 keyOf request = packed request + 1
@@ -87,10 +88,11 @@ abbrev pub keptAt : List ℕ → ℕ → ℕ → List ℕ → List ℕ
 keptAt ws i key block = copied (set ws (keysFrom + i) key) (blockFrom i) block answerWords 0
 
 -- every word of a book that is opened: the header, and all slots empty
+abbrev pub headerWith : Registers → Extent → ℕ → List ℕ
+headerWith r e slots = slots ∷ (wordsOfRegisters r ++ (r .«strtab_base» ∷ (e .base ∷ (e .length ∷ []))))
+
 unfoldable pub openedWith : Registers → Extent → ℕ → List ℕ
-openedWith r e slots =
-    slots ∷ r .idr0 ∷ r .idr1 ∷ r .idr5 ∷ r .cr0 ∷ r .cr2 ∷ r .gbpa ∷ r .«strtab_base_cfg» ∷ r .«strtab_base»
-    ∷ e .base ∷ e .length ∷ replicate (slotsMost + slotsMost * answerWords) 0
+openedWith r e slots = headerWith r e slots ++ replicate (slotsMost + slotsMost * answerWords) 0
 
 -- the memory that an ask is handed is not the one that the book was opened with: refusal 6
 abbrev pub otherExtent : List ℕ → ℕ → ℕ → Bool

@@ -3,7 +3,7 @@
 --     slotWell       what is asked of one slot
 --     firstFrom      the lowest slot with a key
 -- Assumes: nothing.
-use Prim.Native.Nat.{ℕ, zero, suc, _+_, _-_, _^_}
+use Prim.Native.Nat.{ℕ, zero, suc, _+_, _-_}
 use mathlib.Core.Bool.{Bool, true, false, not, _&&_, _||_}
 use mathlib.Core.List.{List}
 use lib.Dec.{eqb, leb, ltb}
@@ -13,10 +13,12 @@ use Rattle.bit_fields.specs.Bits.{inBits}
 use Rattle.ids.specs.Packing.{unpacked}
 use Rattle.ids.specs.declared.Unpacked.{Unpacked}
 use Rattle.ids.specs.declared.Unpacked.the-variants.{Is, Nothing}
+use Rattle.placed.specs.From.{allFrom}
 use Rattle.registers.specs.Sizes.{refusal1}
+use Rattle.registers.specs.Words.{registerWords}
 use Rattle.memory_image.specs.Extent.{refusal2}
 use Rattle.answer_words.specs.AnswerWords.{stands}
-use Rattle.book_words.specs.Layout.{slotsMost, slotsOf, registersOf, extentHeld, keyAt, blockAt}
+use Rattle.book_words.specs.Layout.{slotsMost, registersAt, slotsOf, registersOf, extentHeld, keyAt, blockAt}
 
 -- the lowest slot from i, among the next m, whose key is x; else i + m
 unfoldable pub firstFrom : List ℕ → ℕ → ℕ → ℕ → ℕ
@@ -31,7 +33,7 @@ someRequest (Is request) = true
 someRequest Nothing = false
 
 -- a slot is empty; or it isn't past the number of slots, its key stands for a request that doesn't fail 3, no slot before it has the same one,
--- and its words stand for an answer: at most four pieces, each ending at or below 2^52, an event or unserved number that is listed
+-- and its words stand for an answer: at most piecesMost pieces, each ending at or below 2^52, an event or unserved number that is listed
 unfoldable pub slotWell : List ℕ → ℕ → Bool
 slotWell ws i =
     if eqb (keyAt ws i) 0 then true
@@ -40,24 +42,18 @@ slotWell ws i =
     else if not (eqb (firstFrom ws (keyAt ws i) slotsMost 0) i) then false
     else stands (blockAt ws i)
 
-unfoldable pub wellFrom : List ℕ → ℕ → ℕ → Bool
-wellFrom ws zero i = true
-wellFrom ws (suc m) i =
-    if slotWell ws i then wellFrom ws m (i + 1)
-    else false
+abbrev pub wellFrom : List ℕ → ℕ → ℕ → Bool
+wellFrom ws m i = allFrom (slotWell ws) m i
 
--- m words from i on stand for values of 32 bits
-unfoldable pub narrowFrom : List ℕ → ℕ → ℕ → Bool
-narrowFrom ws zero i = true
-narrowFrom ws (suc m) i =
-    if inBits (getD ws i 0) 32 then narrowFrom ws m (i + 1)
-    else false
+-- a register's word stands for a value of 32 bits
+abbrev pub registerFits : List ℕ → ℕ → Bool
+registerFits ws j = inBits (getD ws (registersAt + j) 0) 32
 
--- those of the seven registers of 32 bits do
+-- those of all registers of 32 bits do
 abbrev pub registersFit : List ℕ → Bool
-registersFit ws = narrowFrom ws 7 1
+registersFit ws = allFrom (registerFits ws) registerWords 0
 
--- slots not 1 to 64; a register's word that stands for none; registers or memory extent that fail 1 or 2; a slot that isn't well
+-- slots not 1 to slotsMost; a register's word that stands for none; registers or memory extent that fail 1 or 2; a slot that isn't well
 unfoldable pub refusal7 : List ℕ → Bool
 refusal7 ws =
     if eqb (slotsOf ws) 0 then true

@@ -2,14 +2,16 @@
 --     placed-length, placed-below, placed-at, placed-above   each byte, and how many there are
 --     placed-then    one after the other is both at once
 --     placed-none    nothing put
+--     placed-whole   as long as the list itself
+--     placed-zeros   put into zeros
 --     set-placed     one store
 -- Assumes: nothing.
 use mathlib.Core.Path.{_≡_, refl, sym, ap, _∙_}
-use mathlib.Core.List.{List, [], _∷_, _++_, append-assoc}
+use mathlib.Core.List.{List, [], _∷_, _++_, append-assoc, append-nil}
 use Prim.Native.Nat.{ℕ, _+_, _-_, _≤_, _<_}
 use native.Mathlib.Omega.{arith}
-use native.Mathlib.Nat.{add-zero}
-use lib.ListN.{length, getD, set, take, drop, take-append-drop, length-append, length-drop, List·getD-append}
+use native.Mathlib.Nat.{add-zero, zero-add}
+use lib.ListN.{length, getD, set, take, drop, take-append-drop, length-append, length-drop, List·getD-append, drop-of-length-le, replicate, length-replicate, replicate-append-replicate}
 use lib.Seq.{sets-eq, take-at, drop-at, drop-drop, length-take-le, getD-take, getD-drop, getD-append-add}
 use Rattle.placed.specs.Placed.{placed}
 
@@ -68,3 +70,16 @@ placed-none q at = rw add-zero (take-append-drop at q)
 pub set-placed : (q : List ℕ) (at b : ℕ) → at < length q → set q at b ≡ placed q at (b ∷ [])
 unfolding placed
 set-placed q at b h = sets-eq (b ∷ []) q at (omega arith) ∙ append-assoc (take at q) (b ∷ []) (drop (at + 1) q)
+
+pub placed-whole : (q r : List ℕ) → length r ≡ length q → placed q 0 r ≡ r
+unfolding placed
+placed-whole q r same = rw (drop-of-length-le q {i = 0 + length r} (omega arith)) (append-nil r)
+
+zeros : ℕ → List ℕ
+zeros n = replicate n 0
+
+pub placed-zeros : (r : List ℕ) (m : ℕ) → placed (replicate (length r + m) 0) 0 r ≡ r ++ replicate m 0
+unfolding placed zeros
+placed-zeros r m =
+    let n : length (zeros (length r)) ≡ 0 + length r = length-replicate {A = ℕ} (length r) 0 ∙ sym (zero-add (length r)) in
+    rw (← replicate-append-replicate {A = ℕ} (length r) m 0, drop-at (zeros (length r)) (zeros m) (0 + length r) n)

@@ -1,2 +1,3 @@
 -- What the contracts of the crates above cite.
 pub mod Placed
+pub mod From

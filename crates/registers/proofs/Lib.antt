@@ -1,2 +1,3 @@
--- Laws of specs/Sizes.antt, for this crate and those above it.
+-- Laws of specs/, for this crate and those above it.
 pub mod SizesLaws
+pub mod WordsLaws

@@ -1,9 +1,13 @@
 // The registers that a monitor hands over, their fields by the names of the standard, and refusal 1.
-// Meets specs/Fields.antt and specs/Sizes.antt. Start at `Registers::refused`.
+// Meets specs/Fields.antt, specs/Sizes.antt and specs/Words.antt. Start at `Registers::refused`.
 ghost use mathlib.Core.Path.{_≡_};
 ghost use Rattle.registers.specs.Sizes.{oasSize, refusal1, sizeOf};
 
 mod fields;
+mod words;
+
+// How many of the registers have 32 bits: all but STRTAB_BASE.
+pub const REGISTER_WORDS: usize = 7;
 
 // The eight registers of the SMMU, as read.
 pub struct Registers {

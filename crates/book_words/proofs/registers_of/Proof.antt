@@ -1,75 +1,48 @@
 -- Proof of `book_words::registers_of`: a register from its word.
 -- Assumes: nothing.
 use borrow.Author.Needs.{needs}
+use native.Mathlib.Omega.{arith}
+use Prim.Native.Nat.{_+_, _-_, _≤_}
+use lib.ListN.{getD}
+use Rattle.placed.proofs.FilledLaws.{Filled, filled-none, filled-more, filled-all}
+use Rattle.registers.specs.Words.{registerWords}
+use Rattle.book_words.specs.Layout.{registersAt, lowWord}
 use Rattle.book_words.proofs.WordsLaws.{registers-is}
 use Rattle.book_words.proofs.registers_of.Statement.{statement}
 use Rattle.book_words.proofs.registers_of.Tie as tie
 
-element-copy-out-half : tie.Need-element-copy-out-half
-element-copy-out-half c = search needs
+abbrev Inv-loop : tie.InvT-loop
+Inv-loop book words₀ j₀ words j =
+    (j ≤ registerWords) × Filled (λ k. lowWord (getD book (registersAt + k) 0)) registerWords words j
 
-half-requires : tie.Need-half-requires
-half-requires c κs = search needs
+abbrev μ-loop : tie.MeasureT-loop
+μ-loop book words₀ j₀ words j = registerWords - j
 
-element-copy-out-half-2 : tie.Need-element-copy-out-half-2
-element-copy-out-half-2 c = search needs
+loop-holds : tie.Need-loop-holds Inv-loop μ-loop
+loop-holds c = (omega arith, filled-none _ registerWords)
 
-half-requires-2 : tie.Need-half-requires-2
-half-requires-2 c κs = search needs
+loop-again : tie.Need-loop-again Inv-loop μ-loop
+loop-again c = (omega arith, search (needs, filled-more))
 
-element-copy-out-half-3 : tie.Need-element-copy-out-half-3
-element-copy-out-half-3 c = search needs
-
-half-requires-3 : tie.Need-half-requires-3
-half-requires-3 c κs = search needs
-
-element-copy-out-half-4 : tie.Need-element-copy-out-half-4
-element-copy-out-half-4 c = search needs
-
-half-requires-4 : tie.Need-half-requires-4
-half-requires-4 c κs = search needs
-
-element-copy-out-half-5 : tie.Need-element-copy-out-half-5
-element-copy-out-half-5 c = search needs
-
-half-requires-5 : tie.Need-half-requires-5
-half-requires-5 c κs = search needs
-
-element-copy-out-half-6 : tie.Need-element-copy-out-half-6
-element-copy-out-half-6 c = search needs
-
-half-requires-6 : tie.Need-half-requires-6
-half-requires-6 c κs = search needs
-
-element-copy-out-half-7 : tie.Need-element-copy-out-half-7
-element-copy-out-half-7 c = search needs
-
-half-requires-7 : tie.Need-half-requires-7
-half-requires-7 c κs = search needs
-
-element-copy-out-strtab-base : tie.Need-element-copy-out-strtab-base
-element-copy-out-strtab-base c = search needs
-
-returns : tie.Need-returns
+returns : tie.Need-returns Inv-loop μ-loop
 returns c = search (needs, registers-is)
 
 pub registers-of-spec : {M : Type 1} → statement M
 registers-of-spec =
     tie.close
     (tie.spec
-    element-copy-out-half
-    half-requires
-    element-copy-out-half-2
-    half-requires-2
-    element-copy-out-half-3
-    half-requires-3
-    element-copy-out-half-4
-    half-requires-4
-    element-copy-out-half-5
-    half-requires-5
-    element-copy-out-half-6
-    half-requires-6
-    element-copy-out-half-7
-    half-requires-7
-    element-copy-out-strtab-base
+    Inv-loop
+    μ-loop
+    loop-holds
+    (λ c. omega arith)
+    (λ c. omega arith)
+    (λ c. omega arith)
+    (λ c κs. search needs)
+    (λ c. omega arith)
+    (λ c. omega arith)
+    (λ c. omega arith)
+    (λ c. omega arith)
+    loop-again
+    (λ c. search needs)
+    (λ c κs. search needs)
     returns)

@@ -5,13 +5,14 @@ use native.Mathlib.Omega.{arith}
 use Prim.Native.Nat.{_≤_, _-_}
 use native.Mathlib.Nat.{sub-zero}
 use mathlib.Core.Path.{_≡_}
+use Rattle.answers.specs.Pieces.{piecesMost}
 use Rattle.book.specs.Book.{sharedFrom}
 use Rattle.book.proofs.ScanLaws.{any-none, any-found, any-more}
 use Rattle.book.proofs.strike.any_shares.Statement.{statement}
 use Rattle.book.proofs.strike.any_shares.Tie as tie
 
 abbrev Inv-loop : tie.InvT-loop
-Inv-loop start size n piece j₀ j = (j ≤ n) × (n ≤ 4) × (sharedFrom start size piece n 0 ≡ sharedFrom start size piece (n - j) j)
+Inv-loop start size n piece j₀ j = (j ≤ n) × (n ≤ piecesMost) × (sharedFrom start size piece n 0 ≡ sharedFrom start size piece (n - j) j)
 
 abbrev μ-loop : tie.MeasureT-loop
 μ-loop start size n piece j₀ j = n - j

@@ -4,16 +4,17 @@ use borrow.Author.Needs.{needs}
 use native.Mathlib.Omega.{arith}
 use Prim.Native.Nat.{_≤_, _-_}
 use mathlib.Core.Path.{_≡_, refl}
+use Rattle.book_words.specs.Layout.{slotsMost}
 use Rattle.book.specs.Book.{struckFrom}
 use Rattle.book.proofs.ScanLaws.{all-struck, more-struck}
 use Rattle.book.proofs.strike.strike_all.Statement.{statement}
 use Rattle.book.proofs.strike.strike_all.Tie as tie
 
 abbrev Inv-loop : tie.InvT-loop
-Inv-loop book₀ start size i₀ book i = (i ≤ 64) × (struckFrom book₀ start size 64 0 ≡ struckFrom book start size (64 - i) i)
+Inv-loop book₀ start size i₀ book i = (i ≤ slotsMost) × (struckFrom book₀ start size slotsMost 0 ≡ struckFrom book start size (slotsMost - i) i)
 
 abbrev μ-loop : tie.MeasureT-loop
-μ-loop book₀ start size i₀ book i = 64 - i
+μ-loop book₀ start size i₀ book i = slotsMost - i
 
 loop-holds : tie.Need-loop-holds Inv-loop μ-loop
 loop-holds c = (omega arith, refl)

@@ -4,43 +4,28 @@ use borrow.Author.Needs.{needs}
 use native.Mathlib.Omega.{arith}
 use Prim.Native.Nat.{_≤_, _-_}
 use mathlib.Core.Path.{_≡_, refl}
-use Rattle.book_words.specs.Malformed.{narrowFrom, registersFit}
-use Rattle.book_words.proofs.MalformedLaws.{all-fit, one-wide, one-fits}
+use Rattle.placed.specs.From.{allFrom}
+use Rattle.placed.proofs.FromLaws.{all-hold, one-fails, one-holds}
+use Rattle.registers.specs.Words.{registerWords}
+use Rattle.book_words.specs.Malformed.{registerFits}
 use Rattle.book_words.proofs.well.registers_fit.Statement.{statement}
 use Rattle.book_words.proofs.well.registers_fit.Tie as tie
 
 abbrev Inv-loop : tie.InvT-loop
-Inv-loop book i₀ i = (1 ≤ i) × (i ≤ 8) × (registersFit book ≡ narrowFrom book (8 - i) i)
+Inv-loop book j₀ j =
+    (j ≤ registerWords) × (allFrom (registerFits book) registerWords 0 ≡ allFrom (registerFits book) (registerWords - j) j)
 
 abbrev μ-loop : tie.MeasureT-loop
-μ-loop book i₀ i = 8 - i
-
-loop-holds : tie.Need-loop-holds Inv-loop μ-loop
-loop-holds c = (omega arith, omega arith, refl)
-
-mul-in-bits : tie.Need-mul-in-bits Inv-loop μ-loop
-mul-in-bits c = omega arith
-
-element-copy-out-in-bits : tie.Need-element-copy-out-in-bits Inv-loop μ-loop
-element-copy-out-in-bits c = omega arith
-
-in-bits-requires : tie.Need-in-bits-requires Inv-loop μ-loop
-in-bits-requires c κs = search needs
+μ-loop book j₀ j = registerWords - j
 
 returns : tie.Need-returns Inv-loop μ-loop
-returns c = search (needs, one-wide)
-
-add-i : tie.Need-add-i Inv-loop μ-loop
-add-i c = omega arith
-
-loop-less : tie.Need-loop-less Inv-loop μ-loop
-loop-less c = omega arith
+returns c = search (needs, one-fails)
 
 loop-again : tie.Need-loop-again Inv-loop μ-loop
-loop-again c = (omega arith, omega arith, search (needs, one-fits))
+loop-again c = (omega arith, search (needs, one-holds))
 
 returns-2 : tie.Need-returns-2 Inv-loop μ-loop
-returns-2 c = search (needs, all-fit)
+returns-2 c = search (needs, all-hold)
 
 pub registers-fit-spec : {M : Type 1} → statement M
 registers-fit-spec =
@@ -48,12 +33,13 @@ registers-fit-spec =
     (tie.spec
     Inv-loop
     μ-loop
-    loop-holds
-    mul-in-bits
-    element-copy-out-in-bits
-    in-bits-requires
+    (λ c. (omega arith, refl))
+    (λ c. omega arith)
+    (λ c. omega arith)
+    (λ c. omega arith)
+    (λ c κs. search needs)
     returns
-    add-i
-    loop-less
+    (λ c. omega arith)
+    (λ c. omega arith)
     loop-again
     returns-2)

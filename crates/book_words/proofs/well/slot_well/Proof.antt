@@ -38,8 +38,8 @@ enum-told-2 c = search needs
 returns-3 : tie.Need-returns-3
 returns-3 c = search (needs, slot-none)
 
-find-requires : tie.Need-find-requires
-find-requires c κs = search needs
+first-with-requires : tie.Need-first-with-requires
+first-with-requires c κs = search needs
 
 returns-4 : tie.Need-returns-4
 returns-4 c = search (needs, slot-twice)
@@ -68,7 +68,7 @@ slot-well-spec =
     enum-told
     enum-told-2
     returns-3
-    find-requires
+    first-with-requires
     returns-4
     block-requires
     is-answer-requires

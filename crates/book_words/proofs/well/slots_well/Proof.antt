@@ -1,40 +1,35 @@
--- Proof of `book_words::well::slots_well`: what is left of the slots is all of them.
+-- Proof of `book_words::well::slots_well`: what is left of the slots is all of them, and each key passed has its mark.
 -- Assumes: nothing.
 use borrow.Author.Needs.{needs}
 use native.Mathlib.Omega.{arith}
 use Prim.Native.Nat.{_≤_, _-_}
 use mathlib.Core.Path.{_≡_, refl}
+use Rattle.placed.proofs.FromLaws.{all-hold, one-fails, one-holds}
+use Rattle.book_words.specs.Layout.{slotsMost}
 use Rattle.book_words.specs.Malformed.{wellFrom}
-use Rattle.book_words.proofs.ScanLaws.{all-well, one-ill, one-well}
+use Rattle.book_words.specs.Marks.{Marked}
+use Rattle.book_words.proofs.MarksLaws.{marked-none, marked-more}
 use Rattle.book_words.proofs.well.slots_well.Statement.{statement}
 use Rattle.book_words.proofs.well.slots_well.Tie as tie
 
 abbrev Inv-loop : tie.InvT-loop
-Inv-loop book i₀ i = (i ≤ 64) × (wellFrom book 64 0 ≡ wellFrom book (64 - i) i)
+Inv-loop book marks₀ i₀ marks i =
+    (i ≤ slotsMost) × ((wellFrom book slotsMost 0 ≡ wellFrom book (slotsMost - i) i) × Marked book i marks)
 
 abbrev μ-loop : tie.MeasureT-loop
-μ-loop book i₀ i = 64 - i
+μ-loop book marks₀ i₀ marks i = slotsMost - i
 
 loop-holds : tie.Need-loop-holds Inv-loop μ-loop
-loop-holds c = (omega arith, refl)
-
-slot-well-requires : tie.Need-slot-well-requires Inv-loop μ-loop
-slot-well-requires c κs = search needs
+loop-holds c = (omega arith, (refl, marked-none _))
 
 returns : tie.Need-returns Inv-loop μ-loop
-returns c = search (needs, one-ill)
-
-add-i : tie.Need-add-i Inv-loop μ-loop
-add-i c = omega arith
-
-loop-less : tie.Need-loop-less Inv-loop μ-loop
-loop-less c = omega arith
+returns c = search (needs, one-fails)
 
 loop-again : tie.Need-loop-again Inv-loop μ-loop
-loop-again c = (omega arith, search (needs, one-well))
+loop-again c = (omega arith, (search (needs, one-holds), search (needs, marked-more)))
 
 returns-2 : tie.Need-returns-2 Inv-loop μ-loop
-returns-2 c = search (needs, all-well)
+returns-2 c = search (needs, all-hold)
 
 pub slots-well-spec : {M : Type 1} → statement M
 slots-well-spec =
@@ -43,9 +38,14 @@ slots-well-spec =
     Inv-loop
     μ-loop
     loop-holds
-    slot-well-requires
+    (λ c κs. search needs)
     returns
-    add-i
-    loop-less
+    (λ c. omega arith)
+    (λ c. omega arith)
+    (λ c. omega arith)
+    (λ c κs. search needs)
+    (λ c. search needs)
+    (λ c. omega arith)
+    (λ c. omega arith)
     loop-again
     returns-2)

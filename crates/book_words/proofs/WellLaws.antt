@@ -1,34 +1,27 @@
--- A book that isn't malformed, as a statement, and that each call keeps it so.
+-- A book that isn't malformed, as a statement.
 --     Well, well-to, well-from          refusal 7 is not given
---     Held, held-to                     what a held slot of such a book has
+--     Held, held-to, held-from          what a held slot of such a book has
 --     first-key, first-low, first-is    the search for a key
---     open-well, kept-well, struck-well the three calls that write words
 -- Assumes: nothing.
-use Prim.Native.Nat.{ℕ, zero, suc, _+_, _-_, _*_, _%_, _^_, _≤_, _<_}
+use Prim.Native.Nat.{ℕ, zero, suc, _+_, _-_, _≤_, _<_}
 use native.Mathlib.Omega.{arith}
-use mathlib.Core.Path.{_≡_, refl, sym, ap, _∙_}
+use mathlib.Core.Path.{_≡_, refl, sym}
 use mathlib.Core.Bool.{Bool, true, false, not}
-use mathlib.Core.List.{List, _∷_}
-use mathlib.Core.Logic.{_⊎_, inl, inr, ⊎-elim}
-use borrow.Author.Tests.{eq-eqb, ne-eqb, lt-ltb, le-ltb, le-leb, lt-leb, eqb-true, eqb-false, ltb-true, ltb-false, leb-true, leb-false}
+use mathlib.Core.List.{List}
+use borrow.Author.Tests.{eq-eqb, ne-eqb, le-ltb, lt-leb, eqb-true, eqb-false, ltb-true, ltb-false, leb-false}
 use lib.Dec.{eqb, leb, ltb}
-use lib.ListN.{length, getD, set}
 use Rattle.number_laws.proofs.Tests.{not-both}
 use Rattle.bit_fields.specs.Choice.{if_then_else_}
-use Rattle.bit_fields.specs.Bits.{inBits}
+use Rattle.placed.proofs.FromLaws.{all-each, all-every}
 use Rattle.ids.specs.Packing.{unpacked}
 use Rattle.ids.specs.declared.Request.{Request}
 use Rattle.ids.specs.declared.Unpacked.{Unpacked}
 use Rattle.ids.specs.declared.Unpacked.the-variants.{Is, Nothing}
 use Rattle.registers.specs.Sizes.{refusal1}
-use Rattle.registers.specs.declared.Registers.{Registers}
-use Rattle.memory_image.specs.Extent.{Extent, refusal2}
+use Rattle.memory_image.specs.Extent.{refusal2}
 use Rattle.answer_words.specs.AnswerWords.{stands}
-use Rattle.book_words.specs.Layout.{slotsOf, registersOf, extentHeld, keyAt, blockAt, keptAt}
-use Rattle.book_words.specs.Malformed.{firstFrom, someRequest, slotWell, wellFrom, narrowFrom, registersFit, refusal7}
-use Rattle.book.specs.Book.{touched, struckFrom}
-use Rattle.book_history.proofs.KeptLaws.{block-same, kept-before, kept-key, kept-key-other, kept-block, kept-block-other}
-use Rattle.book_history.proofs.StruckLaws.{struck-else, struck-key}
+use Rattle.book_words.specs.Layout.{slotsMost, slotsOf, registersOf, extentHeld, keyAt, blockAt}
+use Rattle.book_words.specs.Malformed.{firstFrom, someRequest, slotWell, wellFrom, registersFit, refusal7}
 
 -- the search for a key: where it stops the key stands, and it stops at the first
 pub first-key : (m : ℕ) (ws : List ℕ) (x i : ℕ) → firstFrom ws x m i < i + m → keyAt ws (firstFrom ws x m i) ≡ x
@@ -57,18 +50,18 @@ first-low (suc m) ws x i j is from to = go (eqb (keyAt ws i) x) refl (eqb i j) r
 
 -- where no slot before has the key
 pub first-is :
-    (ws : List ℕ) (x i : ℕ) → i < 64 → keyAt ws i ≡ x → ((j : ℕ) → j < i → keyAt ws j ≡ x → ⊥) → firstFrom ws x 64 0 ≡ i
+    (ws : List ℕ) (x i : ℕ) → i < slotsMost → keyAt ws i ≡ x → ((j : ℕ) → j < i → keyAt ws j ≡ x → ⊥) → firstFrom ws x slotsMost 0 ≡ i
 first-is ws x i small is alone =
-    go (ltb (firstFrom ws x 64 0) i) refl
+    go (ltb (firstFrom ws x slotsMost 0) i) refl
   where
-    low : firstFrom ws x 64 0 ≤ i
-    low = first-low 64 ws x 0 i is (omega arith) (omega arith)
+    low : firstFrom ws x slotsMost 0 ≤ i
+    low = first-low slotsMost ws x 0 i is (omega arith) (omega arith)
 
-    go : (t : Bool) → ltb (firstFrom ws x 64 0) i ≡ t → firstFrom ws x 64 0 ≡ i
+    go : (t : Bool) → ltb (firstFrom ws x slotsMost 0) i ≡ t → firstFrom ws x slotsMost 0 ≡ i
     go true e =
-        let less : firstFrom ws x 64 0 < i = ltb-true _ _ e in
-        absurd (alone (firstFrom ws x 64 0) less (first-key 64 ws x 0 (omega arith)))
-    go false e = let more : i ≤ firstFrom ws x 64 0 = ltb-false _ _ e in omega (arith, low)
+        let less : firstFrom ws x slotsMost 0 < i = ltb-true _ _ e in
+        absurd (alone (firstFrom ws x slotsMost 0) less (first-key slotsMost ws x 0 (omega arith)))
+    go false e = let more : i ≤ firstFrom ws x slotsMost 0 = ltb-false _ _ e in omega (arith, low)
 
 -- what a held slot has
 pub record Held (ws : List ℕ) (i : ℕ) : Type 0 where
@@ -78,16 +71,16 @@ pub record Held (ws : List ℕ) (i : ℕ) : Type 0 where
   pub alone : (j : ℕ) → j < i → keyAt ws j ≡ keyAt ws i → ⊥
   pub answer : stands (blockAt ws i) ≡ true
 
-module _ (ws : List ℕ) (i : ℕ) (small : i < 64) where
+module _ (ws : List ℕ) (i : ℕ) (small : i < slotsMost) where
   pub held-to : slotWell ws i ≡ true → (keyAt ws i ≡ 0 → ⊥) → Held ws i
   unfolding slotWell
   held-to well held =
       go (eqb (keyAt ws i) 0) refl (leb (slotsOf ws) i) refl (unpacked (keyAt ws i - 1)) refl
-      (eqb (firstFrom ws (keyAt ws i) 64 0) i) refl well
+      (eqb (firstFrom ws (keyAt ws i) slotsMost 0) i) refl well
     where
       go :
           (a : Bool) → eqb (keyAt ws i) 0 ≡ a → (b : Bool) → leb (slotsOf ws) i ≡ b → (u : Unpacked) → unpacked (keyAt ws i - 1) ≡ u
-          → (d : Bool) → eqb (firstFrom ws (keyAt ws i) 64 0) i ≡ d
+          → (d : Bool) → eqb (firstFrom ws (keyAt ws i) slotsMost 0) i ≡ d
           → (if a then true else if b then false else if not (someRequest u) then false else if not d then false else stands (blockAt ws i)) ≡ true
           → Held ws i
       go true e b f u g d h is = absurd (held (eqb-true (keyAt ws i) 0 e))
@@ -95,13 +88,13 @@ module _ (ws : List ℕ) (i : ℕ) (small : i < 64) where
       go false e false f Nothing g d h is = not-both (sym is)
       go false e false f (Is request) g false h is = not-both (sym is)
       go false e false f (Is request) g true h is =
-          let first : firstFrom ws (keyAt ws i) 64 0 ≡ i = eqb-true _ _ h in
+          let first : firstFrom ws (keyAt ws i) slotsMost 0 ≡ i = eqb-true _ _ h in
           record {
             inside = leb-false (slotsOf ws) i f;
             request = request;
             is-request = g;
             alone = λ j less same.
-                let low : firstFrom ws (keyAt ws i) 64 0 ≤ j = first-low 64 ws (keyAt ws i) 0 j same (omega arith) (omega arith) in
+                let low : firstFrom ws (keyAt ws i) slotsMost 0 ≤ j = first-low slotsMost ws (keyAt ws i) 0 j same (omega arith) (omega arith) in
                 omega arith;
             answer = is;
           }
@@ -115,7 +108,7 @@ module _ (ws : List ℕ) (i : ℕ) (small : i < 64) where
           → (if a then true
           else if leb (slotsOf ws) i then false
           else if not (someRequest (unpacked (keyAt ws i - 1))) then false
-          else if not (eqb (firstFrom ws (keyAt ws i) 64 0) i) then false
+          else if not (eqb (firstFrom ws (keyAt ws i) slotsMost 0) i) then false
           else stands (blockAt ws i))
           ≡ true
       go true e = refl
@@ -125,39 +118,22 @@ module _ (ws : List ℕ) (i : ℕ) (small : i < 64) where
 
 pub record Well (ws : List ℕ) : Type 0 where
   pub some : slotsOf ws ≡ 0 → ⊥
-  pub few : slotsOf ws ≤ 64
+  pub few : slotsOf ws ≤ slotsMost
   pub fit : registersFit ws ≡ true
   pub registers : refusal1 (registersOf ws) ≡ false
   pub extent : refusal2 (extentHeld ws) ≡ false
-  pub slots : (i : ℕ) → i < 64 → slotWell ws i ≡ true
+  pub slots : (i : ℕ) → i < slotsMost → slotWell ws i ≡ true
 
 module _ (ws : List ℕ) where
-  all-to : (m i₀ i : ℕ) → wellFrom ws m i₀ ≡ true → i₀ ≤ i → i < i₀ + m → slotWell ws i ≡ true
-  unfolding wellFrom
-  all-to zero i₀ i e from to = absurd (omega arith)
-  all-to (suc m) i₀ i e from to = go (slotWell ws i₀) refl e (eqb i₀ i) refl (all-to m (i₀ + 1) i)
-    where
-      go :
-          (t : Bool) → slotWell ws i₀ ≡ t → (if t then wellFrom ws m (i₀ + 1) else false) ≡ true → (u : Bool) → eqb i₀ i ≡ u
-          → (wellFrom ws m (i₀ + 1) ≡ true → i₀ + 1 ≤ i → i < i₀ + 1 + m → slotWell ws i ≡ true) → slotWell ws i ≡ true
-      go true a b true q more = rw (← eqb-true i₀ i q) a
-      go true a b false q more = let other : i₀ ≡ i → ⊥ = eqb-false i₀ i q in more b (omega arith) (omega arith)
-      go false a b u q more = not-both (sym b)
-
-  all-from : (m i₀ : ℕ) → ((i : ℕ) → i₀ ≤ i → i < i₀ + m → slotWell ws i ≡ true) → wellFrom ws m i₀ ≡ true
-  unfolding wellFrom
-  all-from zero i₀ all = refl
-  all-from (suc m) i₀ all = rw (all i₀ (omega arith) (omega arith)) (all-from m (i₀ + 1) (λ i from to. all i (omega arith) (omega arith)))
-
   pub well-to : refusal7 ws ≡ false → Well ws
   unfolding refusal7
   well-to is =
-      go (eqb (slotsOf ws) 0) refl (ltb 64 (slotsOf ws)) refl (registersFit ws) refl (refusal1 (registersOf ws)) refl
-      (refusal2 (extentHeld ws)) refl (wellFrom ws 64 0) refl is
+      go (eqb (slotsOf ws) 0) refl (ltb slotsMost (slotsOf ws)) refl (registersFit ws) refl (refusal1 (registersOf ws)) refl
+      (refusal2 (extentHeld ws)) refl (wellFrom ws slotsMost 0) refl is
     where
       go :
-          (a : Bool) → eqb (slotsOf ws) 0 ≡ a → (b : Bool) → ltb 64 (slotsOf ws) ≡ b → (c : Bool) → registersFit ws ≡ c
-          → (d : Bool) → refusal1 (registersOf ws) ≡ d → (e : Bool) → refusal2 (extentHeld ws) ≡ e → (f : Bool) → wellFrom ws 64 0 ≡ f
+          (a : Bool) → eqb (slotsOf ws) 0 ≡ a → (b : Bool) → ltb slotsMost (slotsOf ws) ≡ b → (c : Bool) → registersFit ws ≡ c
+          → (d : Bool) → refusal1 (registersOf ws) ≡ d → (e : Bool) → refusal2 (extentHeld ws) ≡ e → (f : Bool) → wellFrom ws slotsMost 0 ≡ f
           → (if a then true else if b then true else if not c then true else if d then true else if e then true else not f) ≡ false
           → Well ws
       go true a b b′ c c′ d d′ e e′ f f′ is = not-both is
@@ -169,11 +145,11 @@ module _ (ws : List ℕ) where
       go false a false b′ true c′ false d′ false e′ true f′ is =
           record {
             some = eqb-false (slotsOf ws) 0 a;
-            few = ltb-false 64 (slotsOf ws) b′;
+            few = ltb-false slotsMost (slotsOf ws) b′;
             fit = c′;
             registers = d′;
             extent = e′;
-            slots = λ i small. all-to 64 0 i f′ (omega arith) (omega arith);
+            slots = λ i small. all-each (slotWell ws) slotsMost 0 i f′ (omega arith) (omega arith);
           }
 
   pub well-from : Well ws → refusal7 ws ≡ false
@@ -185,5 +161,5 @@ module _ (ws : List ℕ) where
         well .fit,
         well .registers,
         well .extent,
-        all-from 64 0 (λ i from to. well .slots i (omega arith)),
+        all-every (slotWell ws) slotsMost 0 (λ i from to. well .slots i (omega arith)),
       )

@@ -1,0 +1,20 @@
+-- So many places from one on: their values as a list, and a test of each.
+--     valuesFrom    m values of a function, from i on
+--     from          m values of a list, from i on, and 0 past its end
+--     allFrom       a test holds of m places from i on
+-- Assumes: nothing.
+use Prim.Native.Nat.{ℕ, zero, suc, _+_}
+use mathlib.Core.Bool.{Bool, true, _&&_}
+use mathlib.Core.List.{List, [], _∷_}
+use lib.ListN.{getD}
+
+unfoldable pub valuesFrom : {A : Type 0} → (ℕ → A) → ℕ → ℕ → List A
+valuesFrom f zero i = []
+valuesFrom f (suc m) i = f i ∷ valuesFrom f m (i + 1)
+
+abbrev pub from : List ℕ → ℕ → ℕ → List ℕ
+from l m i = valuesFrom (λ j. getD l j 0) m i
+
+unfoldable pub allFrom : (ℕ → Bool) → ℕ → ℕ → Bool
+allFrom test zero i = true
+allFrom test (suc m) i = test i && allFrom test m (i + 1)
