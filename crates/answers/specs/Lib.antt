@@ -1,4 +1,6 @@
 -- What the contracts of this crate and of those above it cite.
+pub mod Layout
 pub mod Outcome
 pub mod Pieces
+pub mod Walk
 pub mod Proper

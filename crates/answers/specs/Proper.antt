@@ -13,7 +13,8 @@ use Rattle.bit_fields.specs.Bits.{inBits}
 use Rattle.memory_image.specs.Extent.{addressTop}
 use Rattle.memory_image.specs.declared.Piece.{Piece}
 use Rattle.answers.specs.Outcome.{cBadStreamId, fSteFetch, cBadSte, fStreamDisabled, cBadSubstreamId, fCdFetch, cBadCd, stage2, vmsa32, streamWorld}
-use Rattle.answers.specs.Pieces.{piecesMost, nothing}
+use Rattle.answers.specs.Layout.{piecesMost}
+use Rattle.answers.specs.Pieces.{nothing}
 use Rattle.answers.specs.declared.Outcome.{Outcome}
 use Rattle.answers.specs.declared.Outcome.the-variants.{Translate, Bypass, BypassGlobal, Abort, Quiet, Unserved}
 use Rattle.answers.specs.declared.Translation.{Translation}
