@@ -2,7 +2,6 @@
 //!
 //!     bench [ROUNDS]
 
-mod archive;
 mod fold;
 mod inputs;
 mod ordinary;

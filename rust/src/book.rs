@@ -1,7 +1,8 @@
 //! The book.
 
-use crate::answer::Answer;
-use crate::calls::{self, ANSWER_WORDS};
+use crate::answer::{Answer, ANSWER_WORDS};
+use crate::calls;
+use crate::header::{self, numbered};
 use crate::ids::Request;
 use crate::memory::Memory;
 use crate::refusal::Refusal;
@@ -9,13 +10,13 @@ use crate::registers::Registers;
 use core::borrow::{Borrow, BorrowMut};
 
 /// How many words a book has.
-pub const BOOK_WORDS: usize = calls::BOOK_WORDS;
+pub const BOOK_WORDS: usize = header::BOOK_WORDS as usize;
 
 /// How many slots a book has at most.
-pub const SLOTS_MOST: u64 = 64;
+pub const SLOTS_MOST: u64 = header::SLOTS_MOST;
 
 /// A report has at most so many bytes: a buffer of so many is never refused with [`Refusal::Buffer`].
-pub const REPORT_MOST: usize = 2_084;
+pub const REPORT_MOST: usize = header::REPORT_MOST as usize;
 
 /// Kept answers. While each edit of the tables has had its notice, what an ask gives is exactly the answer of a new lookup.
 ///
@@ -31,13 +32,13 @@ pub const REPORT_MOST: usize = 2_084;
 ///
 /// let mut book = Book::open(&registers, 0, 4096, 8)?;
 /// let (kept, answer) = book.ask(Memory { base: 0, bytes: &tables }, request)?;
-/// assert_eq!((kept, answer.outcome), (Kept::Newly, Outcome::Bypass { ste: 5 * 64 }));
+/// assert_eq!((kept, answer.outcome()), (Kept::Newly, Outcome::Bypass { ste: 5 * 64 }));
 ///
 /// // The table is edited, and the book is told.
 /// tables[5 * 64] = 0x01;
 /// book.notice(5 * 64, 1)?;
 /// let (kept, answer) = book.ask(Memory { base: 0, bytes: &tables }, request)?;
-/// assert_eq!((kept, answer.outcome), (Kept::Newly, Outcome::QuietAbort));
+/// assert_eq!((kept, answer.outcome()), (Kept::Newly, Outcome::QuietAbort));
 ///
 /// let mut out = [0; REPORT_MOST];
 /// let length = book.report(&mut out)?;
@@ -49,15 +50,16 @@ pub struct Book<W = [u64; BOOK_WORDS]> {
     words: W,
 }
 
-/// What an ask says of the answer that it gives.
-#[derive(Clone, Copy, Debug, PartialEq, Eq, Hash)]
-pub enum Kept {
-    /// It was kept, and comes from its slot.
-    Before,
-    /// A new lookup; it is kept now, in the empty slot with the lowest number.
-    Newly,
-    /// A new lookup; no slot was empty.
-    Not,
+numbered! {
+    /// What an ask says of the answer that it gives.
+    Kept {
+        /// It was kept, and comes from its slot.
+        Before = KEPT_BEFORE,
+        /// A new lookup; it is kept now, in the empty slot with the lowest number.
+        Newly = NEWLY_KEPT,
+        /// A new lookup; no slot was empty.
+        Not = NOT_KEPT,
+    }
 }
 
 impl Book {
@@ -110,7 +112,7 @@ impl<W: Borrow<[u64; BOOK_WORDS]>> Book<W> {
     pub fn report(&self, out: &mut [u8]) -> Result<usize, Refusal> {
         let mut length = [0];
         match calls::report(self.words(), out, &mut length) {
-            0 => Ok(length[0] as usize),
+            header::DONE => Ok(length[0] as usize),
             number => Err(Refusal::said(number)),
         }
     }
@@ -125,9 +127,9 @@ impl<W: BorrowMut<[u64; BOOK_WORDS]>> Book<W> {
         length: u64,
         slots: u64,
     ) -> Result<(), Refusal> {
-        let (words, book) = (registers.words(), self.words.borrow_mut());
-        match calls::open(book, &words, registers.strtab_base, base, length, slots) {
-            0 => Ok(()),
+        let (book, words) = (self.words.borrow_mut(), calls::registers(registers));
+        match calls::open(book, words, registers.strtab_base, base, length, slots) {
+            header::DONE => Ok(()),
             number => Err(Refusal::said(number)),
         }
     }
@@ -136,14 +138,11 @@ impl<W: BorrowMut<[u64; BOOK_WORDS]>> Book<W> {
     /// Refuses with [`Refusal::Book`], [`Refusal::Extent`] or [`Refusal::Substream`], in this order.
     pub fn ask(&mut self, memory: Memory, request: Request) -> Result<(Kept, Answer), Refusal> {
         let mut answer = [0; ANSWER_WORDS];
-        let book = self.words.borrow_mut();
-        let kept = match calls::ask(book, memory, request.numbers(), &mut answer) {
-            100 => Kept::Before,
-            101 => Kept::Newly,
-            102 => Kept::Not,
-            number => return Err(Refusal::said(number)),
-        };
-        Ok((kept, Answer::said(&answer)))
+        let said = calls::ask(self.words.borrow_mut(), memory, request, &mut answer);
+        match Kept::from_number(said) {
+            Some(kept) => Ok((kept, Answer::said(answer))),
+            None => Err(Refusal::said(said)),
+        }
     }
 
     /// Tells the book that `size` bytes from the address `start` on were edited. Every kept answer that was read from one of them is
@@ -151,7 +150,7 @@ impl<W: BorrowMut<[u64; BOOK_WORDS]>> Book<W> {
     /// Refuses with [`Refusal::Book`] or [`Refusal::Notice`], in this order.
     pub fn notice(&mut self, start: u64, size: u64) -> Result<(), Refusal> {
         match calls::notice(self.words.borrow_mut(), start, size) {
-            0 => Ok(()),
+            header::DONE => Ok(()),
             number => Err(Refusal::said(number)),
         }
     }

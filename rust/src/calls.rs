@@ -1,22 +1,25 @@
-//! The calls of the archive, as include/llobatelh.h has them. The one place with `unsafe`: each function below hands over references and
-//! slices, so every pointer points at as many elements as the call looks at, and what it writes is lent to nothing else.
+//! The calls of the archive on plain words, as include/llobatelh.h has them, for words that are shared with C. What a call says is one of
+//! [`header`](crate::header)'s numbers. The rest of this crate stands on them.
+//!
+//! ```
+//! use llobatelh::{calls, header, Memory, Request, StreamId, ANSWER_WORDS, REGISTERS};
+//!
+//! let (memory, request) = (Memory { base: 0, bytes: &[] }, Request::without(StreamId::from(0)));
+//! let mut answer = [0; ANSWER_WORDS];
+//! let said = calls::lookup(&[0; REGISTERS], 0, memory, request, &mut answer);
+//! assert_eq!((said, answer[0]), (header::DONE, header::BYPASS_GLOBAL));
+//! ```
 
+// The one place with `unsafe`: each function below hands over references and slices, so every pointer points at as many elements as the
+// call looks at, and what it writes is lent to nothing else.
+
+use crate::answer::{Piece, ANSWER_WORDS, PIECES_MOST};
+use crate::book::BOOK_WORDS;
+use crate::header;
+use crate::ids::{Request, SubstreamId};
 use crate::memory::Memory;
-
-pub const REGISTERS: usize = 7;
-pub const ANSWER_WORDS: usize = 18;
-pub const BOOK_WORDS: usize = 1_227;
-
-/// Where no STE is fetched.
-pub const NO_PART: u64 = u64::MAX;
-
-/// A request as numbers. `given` is 0 where there is no SubstreamID.
-#[derive(Clone, Copy)]
-pub struct Numbers {
-    pub stream: u32,
-    pub given: u8,
-    pub substream: u64,
-}
+use crate::registers::{Registers, REGISTERS};
+use core::mem::{offset_of, size_of, MaybeUninit};
 
 extern "C" {
     fn llobatelh_lookup(
@@ -64,13 +67,25 @@ extern "C" {
     fn llobatelh_is_recorded(registers: *const u32, strtab_base: u64, event: u64) -> u64;
 }
 
+/// `given` and `substream` of a request.
+#[inline]
+fn substream(request: Request) -> (u8, u64) {
+    match request.substream {
+        Some(substream) => (header::byte(header::WITH), SubstreamId::number(substream)),
+        None => (header::byte(header::WITHOUT), 0),
+    }
+}
+
+/// A new lookup. Says 0, and puts the answer's words; or refuses with 1, 2 or 3.
+#[inline]
 pub fn lookup(
     registers: &[u32; REGISTERS],
     strtab_base: u64,
     memory: Memory,
-    request: Numbers,
+    request: Request,
     answer: &mut [u64; ANSWER_WORDS],
 ) -> u64 {
+    let (given, substream) = substream(request);
     // SAFETY: 7 registers and as many bytes as `len` says are read, 18 words are written.
     unsafe {
         llobatelh_lookup(
@@ -79,20 +94,23 @@ pub fn lookup(
             memory.base,
             memory.bytes.as_ptr(),
             memory.bytes.len(),
-            request.stream,
-            request.given,
-            request.substream,
+            request.stream.number(),
+            given,
+            substream,
             answer.as_mut_ptr(),
         )
     }
 }
 
+/// Where in the memory the STE of a request starts; [`header::NO_PART`] where none is fetched, or where the lookup refuses.
+#[inline]
 pub fn ste_part(
     registers: &[u32; REGISTERS],
     strtab_base: u64,
     memory: Memory,
-    request: Numbers,
+    request: Request,
 ) -> u64 {
+    let (given, substream) = substream(request);
     // SAFETY: 7 registers and as many bytes as `len` says are read.
     unsafe {
         llobatelh_ste_part(
@@ -101,13 +119,15 @@ pub fn ste_part(
             memory.base,
             memory.bytes.as_ptr(),
             memory.bytes.len(),
-            request.stream,
-            request.given,
-            request.substream,
+            request.stream.number(),
+            given,
+            substream,
         )
     }
 }
 
+/// Opens a book. Says 0, and writes every word of it; or refuses with 1, 2 or 4.
+#[inline]
 pub fn open(
     book: &mut [u64; BOOK_WORDS],
     registers: &[u32; REGISTERS],
@@ -121,12 +141,15 @@ pub fn open(
     unsafe { llobatelh_open(book, registers, strtab_base, base, length, slots) }
 }
 
+/// Asks a book. Says 100, 101 or 102, and puts the answer's words; or refuses with 7, 6 or 3.
+#[inline]
 pub fn ask(
     book: &mut [u64; BOOK_WORDS],
     memory: Memory,
-    request: Numbers,
+    request: Request,
     answer: &mut [u64; ANSWER_WORDS],
 ) -> u64 {
+    let (given, substream) = substream(request);
     // SAFETY: as many bytes as `len` says are read, 1,227 words are read and written, 18 words are written.
     unsafe {
         llobatelh_ask(
@@ -134,19 +157,23 @@ pub fn ask(
             memory.base,
             memory.bytes.as_ptr(),
             memory.bytes.len(),
-            request.stream,
-            request.given,
-            request.substream,
+            request.stream.number(),
+            given,
+            substream,
             answer.as_mut_ptr(),
         )
     }
 }
 
+/// Tells a book of an edit. Says 0; or refuses with 7 or 5.
+#[inline]
 pub fn notice(book: &mut [u64; BOOK_WORDS], start: u64, size: u64) -> u64 {
     // SAFETY: 1,227 words are read and written.
     unsafe { llobatelh_notice(book.as_mut_ptr(), start, size) }
 }
 
+/// Writes a book as text. Says 0, and puts its length; or refuses with 7 or 8.
+#[inline]
 pub fn report(book: &[u64; BOOK_WORDS], out: &mut [u8], length: &mut [u64; 1]) -> u64 {
     // SAFETY: 1,227 words are read, at most as many bytes as `len` says and 1 word are written.
     unsafe {
@@ -159,7 +186,84 @@ pub fn report(book: &[u64; BOOK_WORDS], out: &mut [u8], length: &mut [u64; 1]) -
     }
 }
 
+/// Whether an abort's event is recorded: 1 or 0.
+#[inline]
 pub fn is_recorded(registers: &[u32; REGISTERS], strtab_base: u64, event: u64) -> u64 {
     // SAFETY: 7 registers are read.
     unsafe { llobatelh_is_recorded(registers.as_ptr(), strtab_base, event) }
+}
+
+/// A new lookup into new words; or its refusal's number.
+#[inline]
+pub(crate) fn new_lookup(
+    registers: &Registers,
+    memory: Memory,
+    request: Request,
+) -> Result<[u64; ANSWER_WORDS], u64> {
+    // Not inlined: the archive then writes the words where the caller wants them. Else the compiler, which can't know that the archive
+    // keeps no pointer to them, copies them there.
+    #[inline(never)]
+    fn put(
+        registers: &Registers,
+        base: u64,
+        bytes: &[u8],
+        stream: u32,
+        given: u8,
+        substream: u64,
+        said: &mut u64,
+    ) -> MaybeUninit<[u64; ANSWER_WORDS]> {
+        let mut answer = MaybeUninit::<[u64; ANSWER_WORDS]>::uninit();
+        // SAFETY: as in `lookup`.
+        *said = unsafe {
+            llobatelh_lookup(
+                self::registers(registers).as_ptr(),
+                registers.strtab_base,
+                base,
+                bytes.as_ptr(),
+                bytes.len(),
+                stream,
+                given,
+                substream,
+                answer.as_mut_ptr().cast(),
+            )
+        };
+        answer
+    }
+    let mut said = 0;
+    let (given, substream) = substream(request);
+    let answer = put(
+        registers,
+        memory.base,
+        memory.bytes,
+        request.stream.number(),
+        given,
+        substream,
+        &mut said,
+    );
+    match said {
+        // SAFETY: it is done, so each word was written.
+        header::DONE => Ok(unsafe { answer.assume_init() }),
+        number => Err(number),
+    }
+}
+
+/// The registers of 32 bits, as they stand.
+#[inline]
+pub fn registers(registers: &Registers) -> &[u32; REGISTERS] {
+    // SAFETY: `Registers` starts with them, in their order: `registers.rs` asserts each one's place.
+    unsafe { &*core::ptr::from_ref(registers).cast() }
+}
+
+/// An answer's pieces, as they stand, used or not.
+#[inline]
+pub(crate) fn pieces(answer: &[u64; ANSWER_WORDS]) -> &[Piece; PIECES_MOST] {
+    const PIECES: usize = header::ANSWER_PIECES as usize;
+    const {
+        assert!(8 * (ANSWER_WORDS - PIECES) == size_of::<[Piece; PIECES_MOST]>());
+        assert!(8 * header::answer_address(1) as usize == 8 * PIECES + size_of::<Piece>());
+        assert!(8 * header::answer_address(0) as usize == 8 * PIECES + offset_of!(Piece, address));
+        assert!(8 * header::answer_length(0) as usize == 8 * PIECES + offset_of!(Piece, length));
+    }
+    // SAFETY: the words from there on are as long as the pieces, which are words.
+    unsafe { &*answer[PIECES..].as_ptr().cast() }
 }

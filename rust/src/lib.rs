@@ -19,9 +19,9 @@
 //!     ..Registers::default()
 //! };
 //! let answer = lookup(&registers, memory, Request::without(StreamId::from(5)))?;
-//! assert_eq!(answer.outcome, Outcome::Bypass { ste: 0x4_0140 });
-//! assert_eq!(answer.list[0].address, 0x4_0140);
-//! assert_eq!(answer.list[0].length, 64);
+//! assert_eq!(answer.outcome(), Outcome::Bypass { ste: 0x4_0140 });
+//! assert_eq!(answer.list()[0].address, 0x4_0140);
+//! assert_eq!(answer.list()[0].length, 64);
 //! # Ok::<(), llobatelh::Refusal>(())
 //! ```
 //!
@@ -39,17 +39,19 @@ compile_error!("a length has 64 bits in the archive's calls");
 mod answer;
 mod book;
 #[allow(unsafe_code)]
-mod calls;
+pub mod calls;
+#[allow(unused_parens)] // C's values are written in brackets
+pub mod header;
 mod ids;
 mod lookup;
 mod memory;
 mod refusal;
 mod registers;
 
-pub use answer::{Answer, Event, Outcome, Piece, Pieces, Translation, Unserved};
+pub use answer::{Answer, Event, Outcome, Piece, Translation, Unserved, ANSWER_WORDS, PIECES_MOST};
 pub use book::{Book, Kept, BOOK_WORDS, REPORT_MOST, SLOTS_MOST};
 pub use ids::{Request, StreamId, SubstreamId, TooLarge};
-pub use lookup::{is_recorded, lookup, ste_part};
+pub use lookup::{is_recorded, lookup, ste_part, STE_BYTES};
 pub use memory::{Memory, MEMORY_MOST};
 pub use refusal::Refusal;
-pub use registers::Registers;
+pub use registers::{Registers, REGISTERS};
