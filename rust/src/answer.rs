@@ -1,7 +1,7 @@
 //! What is answered.
 
 use crate::calls;
-use crate::header::{self, numbered};
+use crate::header::{self, numbered, of_another_interface};
 use core::fmt;
 use core::hash::{Hash, Hasher};
 
@@ -157,12 +157,6 @@ fn expect<T>(word: u64, read: impl FnOnce(u64) -> Option<T>) -> T {
         Some(value) => value,
         None => of_another_interface(word),
     }
-}
-
-#[cold]
-#[inline(never)]
-fn of_another_interface(word: u64) -> ! {
-    unreachable!("an archive of another interface: it puts {word}")
 }
 
 impl PartialEq for Answer {

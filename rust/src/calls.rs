@@ -13,11 +13,12 @@
 // The one place with `unsafe`: each function below hands over references and slices, so every pointer points at as many elements as the
 // call looks at, and what it writes is lent to nothing else.
 
-use crate::answer::{Piece, ANSWER_WORDS, PIECES_MOST};
+use crate::answer::{Answer, Piece, ANSWER_WORDS, PIECES_MOST};
 use crate::book::BOOK_WORDS;
 use crate::header;
 use crate::ids::{Request, SubstreamId};
 use crate::memory::Memory;
+use crate::refusal::Refusal;
 use crate::registers::{Registers, REGISTERS};
 use core::mem::{offset_of, size_of, MaybeUninit};
 
@@ -193,13 +194,13 @@ pub fn is_recorded(registers: &[u32; REGISTERS], strtab_base: u64, event: u64) -
     unsafe { llobatelh_is_recorded(registers.as_ptr(), strtab_base, event) }
 }
 
-/// A new lookup into new words; or its refusal's number.
+/// A new lookup, into new words.
 #[inline]
 pub(crate) fn new_lookup(
     registers: &Registers,
     memory: Memory,
     request: Request,
-) -> Result<[u64; ANSWER_WORDS], u64> {
+) -> Result<Answer, Refusal> {
     // Not inlined: the archive then writes the words where the caller wants them. Else the compiler, which can't know that the archive
     // keeps no pointer to them, copies them there.
     #[inline(never)]
@@ -242,8 +243,8 @@ pub(crate) fn new_lookup(
     );
     match said {
         // SAFETY: it is done, so each word was written.
-        header::DONE => Ok(unsafe { answer.assume_init() }),
-        number => Err(number),
+        header::DONE => Ok(Answer::said(unsafe { answer.assume_init() })),
+        number => Err(Refusal::said(number)),
     }
 }
 

@@ -14,6 +14,13 @@ pub(crate) const fn byte(number: u64) -> u8 {
     number as u8
 }
 
+/// A number where the archive of this header never has it.
+#[cold]
+#[inline(never)]
+pub(crate) fn of_another_interface(number: u64) -> ! {
+    unreachable!("an archive of another interface: it says {number}")
+}
+
 /// An enum whose values have numbers of the header.
 macro_rules! numbered {
     ($(#[$about:meta])* $name:ident { $($(#[$doc:meta])* $value:ident = $number:ident,)* }) => {

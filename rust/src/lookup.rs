@@ -25,10 +25,7 @@ pub const STE_BYTES: usize = header::STE_BYTES as usize;
 /// ```
 #[inline]
 pub fn lookup(registers: &Registers, memory: Memory, request: Request) -> Result<Answer, Refusal> {
-    match calls::new_lookup(registers, memory, request) {
-        Ok(words) => Ok(Answer::said(words)),
-        Err(number) => Err(Refusal::said(number)),
-    }
+    calls::new_lookup(registers, memory, request)
 }
 
 /// The STE that a request reaches, as that very part of the lent memory, whatever it holds; none where no STE is fetched, or where the

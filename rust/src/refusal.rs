@@ -1,6 +1,6 @@
 //! The refusals, 1 to 8.
 
-use crate::header::numbered;
+use crate::header::{numbered, of_another_interface};
 use core::fmt;
 
 numbered! {
@@ -39,7 +39,7 @@ impl Refusal {
     pub(crate) fn said(number: u64) -> Refusal {
         match Self::from_number(number) {
             Some(refusal) => refusal,
-            None => unreachable!("an archive of another interface: it says {number}"),
+            None => of_another_interface(number),
         }
     }
 }
