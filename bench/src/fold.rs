@@ -19,10 +19,12 @@ fn sum(words: impl IntoIterator<Item = u64>, from: usize) -> u64 {
 }
 
 /// The words that the archive puts.
+#[inline(always)]
 pub fn words(words: &[u64; ANSWER_WORDS]) -> u64 {
     sum(*words, 0)
 }
 
+#[inline(always)]
 pub fn ordinary(answer: &ordinary::Answer) -> u64 {
     let values = match answer.outcome {
         ordinary::Outcome::Translate(t) => sum(
@@ -56,6 +58,7 @@ pub fn ordinary(answer: &ordinary::Answer) -> u64 {
         .wrapping_add(pieces)
 }
 
+#[inline(always)]
 pub fn wrapped(answer: &Answer) -> u64 {
     let values = match answer.outcome() {
         Outcome::Translate(t) => sum(

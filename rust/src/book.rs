@@ -1,6 +1,6 @@
 //! The book.
 
-use crate::answer::{Answer, ANSWER_WORDS};
+use crate::answer::Answer;
 use crate::calls;
 use crate::header::{self, numbered};
 use crate::ids::Request;
@@ -65,6 +65,7 @@ numbered! {
 impl Book {
     /// Opens a book of so many slots, all empty, for these registers and for a memory of that base and length.
     /// Refuses with [`Refusal::Registers`], [`Refusal::Memory`] or [`Refusal::Slots`], in this order.
+    #[inline]
     pub fn open(
         registers: &Registers,
         base: u64,
@@ -91,11 +92,13 @@ impl<W> Book<W> {
     /// assert_eq!(book.notice(0, 1), Ok(()));
     /// # Ok::<(), Refusal>(())
     /// ```
+    #[inline]
     pub const fn from_words(words: W) -> Book<W> {
         Book { words }
     }
 
     /// Its words.
+    #[inline]
     pub fn into_words(self) -> W {
         self.words
     }
@@ -103,12 +106,14 @@ impl<W> Book<W> {
 
 impl<W: Borrow<[u64; BOOK_WORDS]>> Book<W> {
     /// Its words. include/llobatelh.h says what each is.
+    #[inline]
     pub fn words(&self) -> &[u64; BOOK_WORDS] {
         self.words.borrow()
     }
 
     /// Writes the book as text: a header, then a line for each held slot in rising order. Gives its length; later bytes stay as they were.
     /// Refuses with [`Refusal::Book`] or [`Refusal::Buffer`], in this order.
+    #[inline]
     pub fn report(&self, out: &mut [u8]) -> Result<usize, Refusal> {
         let mut length = [0];
         match calls::report(self.words(), out, &mut length) {
@@ -120,6 +125,7 @@ impl<W: Borrow<[u64; BOOK_WORDS]>> Book<W> {
 
 impl<W: BorrowMut<[u64; BOOK_WORDS]>> Book<W> {
     /// Opens it anew, as [`open`](Book::open) does, whatever the words hold. Where that is refused, the words stay as they are.
+    #[inline]
     pub fn open_again(
         &mut self,
         registers: &Registers,
@@ -136,18 +142,15 @@ impl<W: BorrowMut<[u64; BOOK_WORDS]>> Book<W> {
 
     /// Asks the book, with the memory as it is now; the registers are the book's.
     /// Refuses with [`Refusal::Book`], [`Refusal::Extent`] or [`Refusal::Substream`], in this order.
+    #[inline]
     pub fn ask(&mut self, memory: Memory, request: Request) -> Result<(Kept, Answer), Refusal> {
-        let mut answer = [0; ANSWER_WORDS];
-        let said = calls::ask(self.words.borrow_mut(), memory, request, &mut answer);
-        match Kept::from_number(said) {
-            Some(kept) => Ok((kept, Answer::said(answer))),
-            None => Err(Refusal::said(said)),
-        }
+        calls::new_ask(self.words.borrow_mut(), memory, request)
     }
 
     /// Tells the book that `size` bytes from the address `start` on were edited. Every kept answer that was read from one of them is
     /// struck, and its slot is empty; no other is. Size 0 strikes nothing.
     /// Refuses with [`Refusal::Book`] or [`Refusal::Notice`], in this order.
+    #[inline]
     pub fn notice(&mut self, start: u64, size: u64) -> Result<(), Refusal> {
         match calls::notice(self.words.borrow_mut(), start, size) {
             header::DONE => Ok(()),

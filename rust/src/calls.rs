@@ -11,12 +11,12 @@
 //! ```
 
 // The one place with `unsafe`: each function below hands over references and slices, so every pointer points at as many elements as the
-// call looks at, and what it writes is lent to nothing else.
+// call looks at, and what it writes is lent to nothing else. The words of a refused call stay as they were.
 
 use crate::answer::{Answer, Piece, ANSWER_WORDS, PIECES_MOST};
-use crate::book::BOOK_WORDS;
+use crate::book::{Kept, BOOK_WORDS};
 use crate::header;
-use crate::ids::{Request, SubstreamId};
+use crate::ids::Request;
 use crate::memory::Memory;
 use crate::refusal::Refusal;
 use crate::registers::{Registers, REGISTERS};
@@ -72,7 +72,7 @@ extern "C" {
 #[inline]
 fn substream(request: Request) -> (u8, u64) {
     match request.substream {
-        Some(substream) => (header::byte(header::WITH), SubstreamId::number(substream)),
+        Some(substream) => (header::byte(header::WITH), substream.number()),
         None => (header::byte(header::WITHOUT), 0),
     }
 }
@@ -194,15 +194,15 @@ pub fn is_recorded(registers: &[u32; REGISTERS], strtab_base: u64, event: u64) -
     unsafe { llobatelh_is_recorded(registers.as_ptr(), strtab_base, event) }
 }
 
-/// A new lookup, into new words.
+/// A lookup that puts a new answer.
 #[inline]
 pub(crate) fn new_lookup(
     registers: &Registers,
     memory: Memory,
     request: Request,
 ) -> Result<Answer, Refusal> {
-    // Not inlined: the archive then writes the words where the caller wants them. Else the compiler, which can't know that the archive
-    // keeps no pointer to them, copies them there.
+    // Not inlined: what it gives back is then written by the archive where the caller wants it. Inlined it would be copied, since no
+    // compiler can know that the archive keeps no pointer to it.
     #[inline(never)]
     fn put(
         registers: &Registers,
@@ -214,7 +214,7 @@ pub(crate) fn new_lookup(
         said: &mut u64,
     ) -> MaybeUninit<[u64; ANSWER_WORDS]> {
         let mut answer = MaybeUninit::<[u64; ANSWER_WORDS]>::uninit();
-        // SAFETY: as in `lookup`.
+        // SAFETY: as in `lookup`. The words are written, and not read.
         *said = unsafe {
             llobatelh_lookup(
                 self::registers(registers).as_ptr(),
@@ -231,20 +231,58 @@ pub(crate) fn new_lookup(
         answer
     }
     let mut said = 0;
+    let (base, bytes, stream) = (memory.base, memory.bytes, request.stream.number());
     let (given, substream) = substream(request);
-    let answer = put(
-        registers,
-        memory.base,
-        memory.bytes,
-        request.stream.number(),
-        given,
-        substream,
-        &mut said,
-    );
+    let answer = put(registers, base, bytes, stream, given, substream, &mut said);
     match said {
-        // SAFETY: it is done, so each word was written.
+        // SAFETY: it is done, so every word of the answer was written.
         header::DONE => Ok(Answer::said(unsafe { answer.assume_init() })),
         number => Err(Refusal::said(number)),
+    }
+}
+
+/// An ask that puts a new answer.
+#[inline]
+pub(crate) fn new_ask(
+    book: &mut [u64; BOOK_WORDS],
+    memory: Memory,
+    request: Request,
+) -> Result<(Kept, Answer), Refusal> {
+    // As in `new_lookup`.
+    #[inline(never)]
+    fn put(
+        book: &mut [u64; BOOK_WORDS],
+        base: u64,
+        bytes: &[u8],
+        stream: u32,
+        given: u8,
+        substream: u64,
+        said: &mut u64,
+    ) -> MaybeUninit<[u64; ANSWER_WORDS]> {
+        let mut answer = MaybeUninit::<[u64; ANSWER_WORDS]>::uninit();
+        // SAFETY: as in `ask`. The answer's words are written, and not read.
+        *said = unsafe {
+            llobatelh_ask(
+                book.as_mut_ptr(),
+                base,
+                bytes.as_ptr(),
+                bytes.len(),
+                stream,
+                given,
+                substream,
+                answer.as_mut_ptr().cast(),
+            )
+        };
+        answer
+    }
+    let mut said = 0;
+    let (base, bytes, stream) = (memory.base, memory.bytes, request.stream.number());
+    let (given, substream) = substream(request);
+    let answer = put(book, base, bytes, stream, given, substream, &mut said);
+    match Kept::from_number(said) {
+        // SAFETY: it is no refusal, so every word of the answer was written.
+        Some(kept) => Ok((kept, Answer::said(unsafe { answer.assume_init() }))),
+        None => Err(Refusal::said(said)),
     }
 }
 

@@ -21,14 +21,15 @@ pub(crate) fn of_another_interface(number: u64) -> ! {
     unreachable!("an archive of another interface: it says {number}")
 }
 
-/// An enum whose values have numbers of the header.
+/// An enum whose values have numbers of the header. It has 4 bytes: beside a [`Refusal`](crate::Refusal) of so many a `Result` has no gap
+/// before its answer, and the compiler can do without copies of it.
 macro_rules! numbered {
     ($(#[$about:meta])* $name:ident { $($(#[$doc:meta])* $value:ident = $number:ident,)* }) => {
         $(#[$about])*
         #[derive(Clone, Copy, Debug, PartialEq, Eq, PartialOrd, Ord, Hash)]
-        #[repr(u8)]
+        #[repr(u32)]
         pub enum $name {
-            $($(#[$doc])* $value = $crate::header::byte($crate::header::$number),)*
+            $($(#[$doc])* $value = $crate::header::byte($crate::header::$number) as u32,)*
         }
 
         impl $name {
