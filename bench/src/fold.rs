@@ -1,5 +1,5 @@
 //! Every word of an answer, folded into a checksum. Each word is multiplied by a number of its place, so words that are 0 on one side need
-//! not be there on the other, and a word in a wrong place changes the sum.
+//! not be there on the other, and a word in a wrong place changes the sum. Each is inlined, so that the three sides are measured alike.
 
 use crate::ordinary;
 use llobatelh::{header, Answer, Outcome, ANSWER_WORDS};

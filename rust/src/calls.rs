@@ -1,5 +1,5 @@
 //! The calls of the archive on plain words, as include/llobatelh.h has them, for words that are shared with C. What a call says is one of
-//! [`header`](crate::header)'s numbers. The rest of this crate stands on them.
+//! [`header`]'s numbers. The rest of this crate stands on them.
 //!
 //! ```
 //! use llobatelh::{calls, header, Memory, Request, StreamId, ANSWER_WORDS, REGISTERS};

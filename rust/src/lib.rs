@@ -26,9 +26,10 @@
 //! ```
 //!
 //! Everything is worked out by an archive whose calls are proved for every number that can be handed in; this crate gives its words their
-//! types. What it adds is not proved: the declarations of the calls (`calls.rs`, the one place with `unsafe`) and the reading of an answer's words.
+//! types. What it adds is not proved: the declarations of the calls ([`calls`], the one place with `unsafe`) and the reading of an answer's words.
 //! The archive is found by `build.rs`: in the folder that the variable `LLOBATELH_ARCHIVE` names, or where the repository's `./archive`
-//! puts the one for the target. The one for Arm is compiled by a step that the toolchain does not answer for.
+//! puts the one for the target. The one for Arm is compiled by a step that the toolchain does not answer for. The numbers are those of
+//! `llobatelh.h` ([`header`]), in the folder that the variable `LLOBATELH_INCLUDE` names, or in the repository's `include`.
 //!
 //! Nothing here asks for memory, and nothing panics with the archive that belongs to this crate.
 #![no_std]

@@ -12,7 +12,8 @@ fn bypass(ste: u64) -> Outcome {
 #[test]
 fn p1_to_p9() {
     let figure = figure();
-    let shots: [(u32, Outcome, &[(u64, u64)]); 9] = [
+    type Shot<'a> = (u32, Outcome, &'a [(u64, u64)]);
+    let shots: [Shot; 9] = [
         (0, bypass(0x0), &[(0x8000, 8), (0x0, 64)]),
         (255, bypass(0x3FC0), &[(0x8000, 8), (0x3FC0, 64)]),
         (256, bypass(0x2F00), &[(0x8008, 8), (0x2F00, 64)]),
