@@ -102,7 +102,7 @@ impl Answer {
     }
 
     /// What the stream gets.
-    #[inline]
+    #[inline(always)] // so that only those words are read that are looked at
     pub fn outcome(&self) -> Outcome {
         let word = |place| self.words[place as usize];
         match word(header::ANSWER_KIND) {
@@ -130,7 +130,7 @@ impl Answer {
     }
 
     /// The descriptors that were fetched, in order. A fetch that faulted is not among them.
-    #[inline]
+    #[inline(always)]
     pub fn list(&self) -> &[Piece] {
         let count = self.words[header::ANSWER_COUNT as usize];
         expect(count, |count| {

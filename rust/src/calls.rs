@@ -71,9 +71,11 @@ extern "C" {
 /// `given` and `substream` of a request.
 #[inline]
 fn substream(request: Request) -> (u8, u64) {
+    const WITH: u8 = header::byte(header::WITH);
+    const WITHOUT: u8 = header::byte(header::WITHOUT);
     match request.substream {
-        Some(substream) => (header::byte(header::WITH), substream.number()),
-        None => (header::byte(header::WITHOUT), 0),
+        Some(substream) => (WITH, substream.number()),
+        None => (WITHOUT, 0),
     }
 }
 
@@ -87,7 +89,7 @@ pub fn lookup(
     answer: &mut [u64; ANSWER_WORDS],
 ) -> u64 {
     let (given, substream) = substream(request);
-    // SAFETY: 7 registers and as many bytes as `len` says are read, 18 words are written.
+    // SAFETY: the registers and as many bytes as `len` says are read, the answer's words are written.
     unsafe {
         llobatelh_lookup(
             registers.as_ptr(),
@@ -112,7 +114,7 @@ pub fn ste_part(
     request: Request,
 ) -> u64 {
     let (given, substream) = substream(request);
-    // SAFETY: 7 registers and as many bytes as `len` says are read.
+    // SAFETY: the registers and as many bytes as `len` says are read.
     unsafe {
         llobatelh_ste_part(
             registers.as_ptr(),
@@ -138,7 +140,7 @@ pub fn open(
     slots: u64,
 ) -> u64 {
     let (book, registers) = (book.as_mut_ptr(), registers.as_ptr());
-    // SAFETY: 7 registers are read, 1,227 words are written.
+    // SAFETY: the registers are read, the book's words are written.
     unsafe { llobatelh_open(book, registers, strtab_base, base, length, slots) }
 }
 
@@ -151,7 +153,7 @@ pub fn ask(
     answer: &mut [u64; ANSWER_WORDS],
 ) -> u64 {
     let (given, substream) = substream(request);
-    // SAFETY: as many bytes as `len` says are read, 1,227 words are read and written, 18 words are written.
+    // SAFETY: as many bytes as `len` says are read, the book's words are read and written, the answer's are written.
     unsafe {
         llobatelh_ask(
             book.as_mut_ptr(),
@@ -169,14 +171,14 @@ pub fn ask(
 /// Tells a book of an edit. Says 0; or refuses with 7 or 5.
 #[inline]
 pub fn notice(book: &mut [u64; BOOK_WORDS], start: u64, size: u64) -> u64 {
-    // SAFETY: 1,227 words are read and written.
+    // SAFETY: the book's words are read and written.
     unsafe { llobatelh_notice(book.as_mut_ptr(), start, size) }
 }
 
 /// Writes a book as text. Says 0, and puts its length; or refuses with 7 or 8.
 #[inline]
 pub fn report(book: &[u64; BOOK_WORDS], out: &mut [u8], length: &mut [u64; 1]) -> u64 {
-    // SAFETY: 1,227 words are read, at most as many bytes as `len` says and 1 word are written.
+    // SAFETY: the book's words are read, at most as many bytes as `len` says and 1 word are written.
     unsafe {
         llobatelh_report(
             book.as_ptr(),
@@ -190,7 +192,7 @@ pub fn report(book: &[u64; BOOK_WORDS], out: &mut [u8], length: &mut [u64; 1]) -
 /// Whether an abort's event is recorded: 1 or 0.
 #[inline]
 pub fn is_recorded(registers: &[u32; REGISTERS], strtab_base: u64, event: u64) -> u64 {
-    // SAFETY: 7 registers are read.
+    // SAFETY: the registers are read.
     unsafe { llobatelh_is_recorded(registers.as_ptr(), strtab_base, event) }
 }
 
