@@ -1,5 +1,8 @@
 //! Every word of an answer, folded into a checksum. Each word is multiplied by a number of its place, so words that are 0 on one side need
-//! not be there on the other, and a word in a wrong place changes the sum. Each is inlined, so that the three sides are measured alike.
+//! not be there on the other, and a word in a wrong place changes the sum.
+//!
+//! The folds of the archive's answers are always inlined: left to the compiler, that hangs on the size of the loops around them. The one of
+//! ordinary answers is left to it, and is the quicker for it.
 
 use crate::ordinary;
 use llobatelh::{header, Answer, Outcome, ANSWER_WORDS};
@@ -24,7 +27,6 @@ pub fn words(words: &[u64; ANSWER_WORDS]) -> u64 {
     sum(*words, 0)
 }
 
-#[inline(always)]
 pub fn ordinary(answer: &ordinary::Answer) -> u64 {
     let values = match answer.outcome {
         ordinary::Outcome::Translate(t) => sum(
