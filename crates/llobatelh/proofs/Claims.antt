@@ -54,7 +54,7 @@ use Rattle.llobatelh.specs.Claims.{
   OneNotice,
   OneReport,
 }
-use Rattle.llobatelh.proofs.ReportLengthLaws.{report-short}
+use Rattle.report.proofs.LengthLaws.{report-short}
 
 pub part-lies : PartLies
 unfolding partSays
