@@ -14,7 +14,6 @@ use lib.Dec.{eqb, leb, ltb}
 use lib.ListN.{length, getD}
 use Rattle.number_laws.proofs.Tests.{not-both}
 use Rattle.bit_fields.specs.Choice.{if_then_else_}
-use Rattle.placed.specs.From.{valuesFrom}
 use Rattle.placed.proofs.FromLaws.{values-length, values-at}
 use Rattle.ids.specs.Ids.{refusal3}
 use Rattle.ids.specs.Packing.{packed, unpacked}

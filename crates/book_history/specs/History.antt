@@ -10,7 +10,7 @@ use lib.Dec.{leb, ltb}
 use lib.ListN.{getD, length}
 use Rattle.bit_fields.specs.Choice.{if_then_else_}
 use Rattle.ids.specs.declared.Request.{Request}
-use Rattle.placed.specs.From.{valuesFrom}
+use Rattle.placed.specs.From.{tab}
 use Rattle.registers.specs.Words.{Narrow}
 use Rattle.registers.specs.declared.Registers.{Registers}
 use Rattle.memory_image.specs.Extent.{extentOf}
@@ -39,7 +39,7 @@ pub data Step : Type 0 where
   report : Step
 
 abbrev pub edited : ℕ → (ℕ → Bool) → List ℕ → List ℕ → List ℕ
-edited base at other memory = valuesFrom (λ i. if at (base + i) then getD other i 0 else getD memory i 0) (length memory) 0
+edited base at other memory = tab (length memory) (λ i. if at (base + i) then getD other i 0 else getD memory i 0)
 
 -- an address is one of a notice's
 abbrev pub noticedAt : ℕ → ℕ → ℕ → Bool

@@ -15,7 +15,7 @@ use lib.Dec.{eqb}
 use lib.ListN.{getD, set, replicate}
 use Rattle.ids.specs.Packing.{packed}
 use Rattle.ids.specs.declared.Request.{Request}
-use Rattle.placed.specs.From.{valuesFrom}
+use Rattle.placed.specs.From.{tab}
 use Rattle.registers.specs.Words.{registerWords, registersFrom, wordsOfRegisters}
 use Rattle.registers.specs.declared.Registers.{Registers}
 use Rattle.memory_image.specs.Extent.{Extent}
@@ -55,7 +55,7 @@ lowWord word = word % 2 ^ 32
 
 unfoldable pub registersOf : List ℕ → Registers
 registersOf ws =
-    registersFrom (valuesFrom (λ j. lowWord (getD ws (registersAt + j) 0)) registerWords 0) (getD ws strtabBaseAt 0)
+    registersFrom (tab registerWords (λ j. lowWord (getD ws (registersAt + j) 0))) (getD ws strtabBaseAt 0)
 
 abbrev pub baseOf : List ℕ → ℕ
 baseOf ws = getD ws baseAt 0
@@ -73,7 +73,7 @@ abbrev pub blockFrom : ℕ → ℕ
 blockFrom i = blocksFrom + answerWords * i
 
 unfoldable pub blockAt : List ℕ → ℕ → List ℕ
-blockAt ws i = valuesFrom (λ j. getD ws (blockFrom i + j) 0) answerWords 0
+blockAt ws i = tab answerWords (λ j. getD ws (blockFrom i + j) 0)
 
 abbrev pub keyOf : Request → ℕ
 keyOf request = packed request + 1

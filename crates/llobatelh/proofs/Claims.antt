@@ -38,7 +38,7 @@ use Rattle.book.specs.Book.{
   refusedWith as refusedAsk,
 }
 use Rattle.book.specs.declared.Reply.the-variants as reply
-use Rattle.book_history.proofs.WellLaws.{well-to}
+use Rattle.book_words.proofs.WellLaws.{well-to}
 use Rattle.report.specs.Report.{reportSays, reportText}
 use Rattle.report.specs.declared.Written.the-variants as written
 use Rattle.llobatelh.specs.Calls.{noPart, partSays, asked}
@@ -54,7 +54,7 @@ use Rattle.llobatelh.specs.Claims.{
   OneNotice,
   OneReport,
 }
-use Rattle.llobatelh.proofs.ReportLengthLaws.{report-short}
+use Rattle.report.proofs.LengthLaws.{report-short}
 
 pub part-lies : PartLies
 unfolding partSays

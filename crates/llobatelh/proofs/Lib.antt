@@ -1,5 +1,4 @@
 -- Laws of specs/.
 pub mod HandedLaws
 pub mod CallsLaws
-pub mod ReportLengthLaws
 pub mod Claims

@@ -1,12 +1,15 @@
 // The calls of the C interface on a book. Start at `llobatelh_ask`.
 // Meets specs/Calls.antt; include/llobatelh.h says what each word of a book is.
 ghost use mathlib.Core.Path.{_≡_};
+ghost use Rattle.registers.specs.Words.{registersFrom};
 ghost use Rattle.llobatelh.specs.Calls.{AsksBook, NoticesBook, OpensBook, ReportsBook, saidSays};
-ghost use Rattle.llobatelh.specs.Handed.{registersFrom, requestFrom};
+ghost use Rattle.llobatelh.specs.Handed.{requestFrom};
 use super::handed;
 use super::put;
 use book::Reply;
 use book::Said;
+use book_words::BOOK_WORDS;
+use registers::REGISTER_WORDS;
 use report::Written;
 
 // What an ask says of the answer that it gives.
@@ -19,8 +22,8 @@ const NOT_KEPT: u64 = 102;
 // Opens a book: 0 and every word of it; or refusal 1, 2 or 4.
 #[no_mangle]
 pub extern "C" fn llobatelh_open(
-    book: &mut [u64; 1227],
-    registers: &[u32; 7],
+    book: &mut [u64; BOOK_WORDS],
+    registers: &[u32; REGISTER_WORDS],
     strtab_base: u64,
     base: u64,
     length: u64,
@@ -47,7 +50,7 @@ fn number_of(said: Said) -> u64
 // 7, 6 or 3.
 #[no_mangle]
 pub extern "C" fn llobatelh_ask(
-    book: &mut [u64; 1227],
+    book: &mut [u64; BOOK_WORDS],
     base: u64,
     memory: &[u8],
     stream: u32,
@@ -71,7 +74,7 @@ pub extern "C" fn llobatelh_ask(
 
 // Tells a book that bytes were edited: 0; or refusal 7 or 5.
 #[no_mangle]
-pub extern "C" fn llobatelh_notice(book: &mut [u64; 1227], start: u64, size: u64) -> u64
+pub extern "C" fn llobatelh_notice(book: &mut [u64; BOOK_WORDS], start: u64, size: u64) -> u64
     ensures { λ r. ⌜ NoticesBook (now (book .entry)) start size r (now (book .exit)) ⌝ }
 {
     let said = book::notice(book, start, size);
@@ -80,7 +83,7 @@ pub extern "C" fn llobatelh_notice(book: &mut [u64; 1227], start: u64, size: u64
 
 // Writes a book as text: 0 and the text's length; or refusal 7 or 8.
 #[no_mangle]
-pub extern "C" fn llobatelh_report(book: &[u64; 1227], out: &mut [u8], length: &mut [u64; 1]) -> u64
+pub extern "C" fn llobatelh_report(book: &[u64; BOOK_WORDS], out: &mut [u8], length: &mut [u64; 1]) -> u64
     ensures { λ r. ⌜ ReportsBook (now (book .entry)) (now (out .entry)) (now (length .entry)) r (now (out .exit)) (now (length .exit)) ⌝ }
 {
     let written = report::report(book, out);

@@ -1,33 +1,19 @@
 // What a C caller hands over, as the crates below have it. Meets specs/Handed.antt.
 ghost use mathlib.Core.Path.{_≡_};
-ghost use Rattle.llobatelh.specs.Handed.{registersFrom, requestFrom, substreamFrom};
+ghost use Rattle.registers.specs.Words.{registersFrom};
+ghost use Rattle.llobatelh.specs.Handed.{requestFrom, substreamFrom};
 use ids::Request;
 use ids::StreamId;
 use ids::Substream;
 use ids::SubstreamId;
+use registers::REGISTER_WORDS;
 use registers::Registers;
 
-// The registers, from the seven of 32 bits and STRTAB_BASE.
-pub fn registers(words: &[u32; 7], strtab_base: u64) -> Registers
+// The registers, from the words of those of 32 bits, and STRTAB_BASE.
+pub fn registers(words: &[u32; REGISTER_WORDS], strtab_base: u64) -> Registers
     ensures { λ r. ⌜ r ≡ registersFrom (now (words .entry)) «strtab_base» ⌝ }
 {
-    let idr0 = words[0];
-    let idr1 = words[1];
-    let idr5 = words[2];
-    let cr0 = words[3];
-    let cr2 = words[4];
-    let gbpa = words[5];
-    let strtab_base_cfg = words[6];
-    Registers {
-        idr0,
-        idr1,
-        idr5,
-        cr0,
-        cr2,
-        gbpa,
-        strtab_base,
-        strtab_base_cfg,
-    }
+    Registers::from_words(words, strtab_base)
 }
 
 // A SubstreamID is given where `given` is any number but 0.

@@ -2,14 +2,16 @@
 // Meets specs/Calls.antt. include/llobatelh.h declares it for C and says what each word is; the calls on a book are in book_calls.rt.
 // No call asks anything of its numbers; a refused call leaves every byte and word.
 ghost use mathlib.Core.Path.{_≡_};
+ghost use Rattle.registers.specs.Words.{registersFrom};
 ghost use Rattle.answer_words.specs.AnswerWords.{wordsOf};
 ghost use Rattle.lookup.specs.Lookup.{lookedUp};
 ghost use Rattle.lookup.specs.Part.{steAt};
 ghost use Rattle.llobatelh.specs.Calls.{AnswerIs, LooksUp, partSays, recordedSays};
-ghost use Rattle.llobatelh.specs.Handed.{registersFrom, requestFrom};
+ghost use Rattle.llobatelh.specs.Handed.{requestFrom};
 use answers::Outcome;
 use answers::Pieces;
 use memory_image::Fetched;
+use registers::REGISTER_WORDS;
 
 pub mod book_calls;
 mod handed;
@@ -47,7 +49,7 @@ fn put(answer: &mut [u64; 18], outcome: Outcome, list: Pieces, number: u64) -> u
 // Where in the memory the STE of a request starts, 64 bytes; or NO_PART where none is handed back.
 #[no_mangle]
 pub extern "C" fn llobatelh_ste_part(
-    registers: &[u32; 7],
+    registers: &[u32; REGISTER_WORDS],
     strtab_base: u64,
     base: u64,
     memory: &[u8],
@@ -68,7 +70,7 @@ pub extern "C" fn llobatelh_ste_part(
 
 // Whether an abort's event is recorded: 1 or 0.
 #[no_mangle]
-pub extern "C" fn llobatelh_is_recorded(registers: &[u32; 7], strtab_base: u64, event: u64) -> u64
+pub extern "C" fn llobatelh_is_recorded(registers: &[u32; REGISTER_WORDS], strtab_base: u64, event: u64) -> u64
     ensures { λ r. ⌜ r ≡ recordedSays (registersFrom (now (registers .entry)) «strtab_base») event ⌝ }
 {
     let regs = handed::registers(registers, strtab_base);

@@ -3,3 +3,4 @@ pub mod ScanLaws
 pub mod PutLaws
 pub mod ReportLaws
 pub mod Claims
+pub mod LengthLaws

@@ -12,12 +12,15 @@ use mathlib.Core.List.{List, [], _∷_, _++_}
 use lib.ListN.{getD, set, length, length-append, length-set}
 use Rattle.placed.specs.Placed.{Left, placed}
 use Rattle.placed.proofs.LeftLaws.{left-all, left-room, left-more, left-one, left-placed, left-end}
-use Rattle.report_cells.specs.Text.{Spells, from}
+use Rattle.placed.specs.From.{from}
+use Rattle.placed.proofs.FromLaws.{values-length}
+use Rattle.placed.proofs.FilledLaws.{value-put, values-put}
+use Rattle.report_cells.specs.Text.{Spells}
 use Rattle.report_cells.specs.Cells.{cellText, cellsFrom, columnsOf, endingOf, lineText}
 use Rattle.report_cells.specs.declared.Cell.{Cell}
 use Rattle.report_cells.specs.declared.Line.{Line}
 use Rattle.report.specs.Report.{Put, lineAt, linesFrom}
-use Rattle.report.proofs.ScanLaws.{from-end, from-step, from-length, cells-end, cells-step, cells-length, lines-end, lines-step, whole-line}
+use Rattle.report.proofs.ScanLaws.{cells-end, cells-step, cells-length, lines-end, lines-step, whole-line}
 
 -- nothing is left: all is put
 pub all-put : {q all now left : List ℕ} {at to : ℕ} → Left q at all now to left → left ≡ [] → Put all q at to now
@@ -27,17 +30,15 @@ pub cell-starts :
     (b : List ℕ) (n e at : ℕ) (q : List ℕ) → at + n + 1 ≤ length q
     → Left q at (from b n 0 ++ (e ∷ [])) q (at + 0) (from b (n - 0) 0 ++ (e ∷ []))
 cell-starts b n e at q fits =
-    let l : length (from b n 0 ++ (e ∷ [])) ≡ n + 1 = length-append (from b n 0) (e ∷ []) ∙ ap (λ (m : ℕ). m + 1) (from-length b n 0) in
+    let l : length (from b n 0 ++ (e ∷ [])) ≡ n + 1 = length-append (from b n 0) (e ∷ []) ∙ ap (λ (m : ℕ). m + 1) (values-length (λ j. getD b j 0) n 0) in
     rw (add-zero, sub-zero) (left-all q at (from b n 0 ++ (e ∷ [])) (omega arith))
 
 module _ (b : List ℕ) (n j e : ℕ) {q all now : List ℕ} {at : ℕ} (so-far : Left q at all now (at + j) (from b (n - j) j ++ (e ∷ []))) where
   pub byte-put : j < n → Left q at all (set now (at + j) (getD b j 0)) (at + (j + 1)) (from b (n - (j + 1)) (j + 1) ++ (e ∷ []))
-  byte-put more =
-      left-one so-far (getD b j 0) (from b (n - (j + 1)) (j + 1) ++ (e ∷ []))
-      (ap (λ (l : List ℕ). l ++ (e ∷ [])) (from-step b n j more)) (omega arith)
+  byte-put more = value-put (λ i. getD b i 0) n j (e ∷ []) so-far more refl (omega arith)
 
   pub cell-put : n ≤ j → Put all q at (at + j + 1) (set now (at + j) e)
-  cell-put past = all-put (left-one so-far e [] (ap (λ (l : List ℕ). l ++ (e ∷ [])) (from-end b n j past)) refl) refl
+  cell-put past = all-put (left-one (values-put (λ i. getD b i 0) n j (e ∷ []) so-far past) e [] refl refl) refl
 
   pub cell-long : length (set now (at + j) e) ≡ length q
   cell-long = length-set now (at + j) e ∙ so-far .long

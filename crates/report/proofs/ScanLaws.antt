@@ -1,5 +1,4 @@
 -- One step of each text that is defined by what is left of it, under the test that the code makes; and lengths.
---     from-end, from-step, from-length           the bytes of a cell
 --     cells-end, cells-step                      the cells of a line
 --     lines-end, lines-step                      the lines of the slots
 --     cells-summed, cells-done, lines-summed, lines-done     the loops that count bytes
@@ -14,27 +13,15 @@ use mathlib.Core.List.{List, [], _∷_, _++_}
 use lib.ListN.{getD, length, length-append}
 use Rattle.number_laws.proofs.Scans.{left-none, left-one}
 use Rattle.book_words.specs.Layout.{slotsOf}
-use Rattle.report_cells.specs.Text.{Spells, from}
-use Rattle.report_cells.specs.Cells.{cellText, cellsFrom, columnsOf, endingOf, lineText}
+use Rattle.placed.specs.From.{from}
+use Rattle.placed.proofs.FromLaws.{values-length}
+use Rattle.report_cells.specs.Text.{Spells, cellMost}
+use Rattle.report_cells.specs.Cells.{columns, cellText, cellsFrom, columnsOf, endingOf, lineText}
 use Rattle.report_cells.specs.declared.Cell.{Cell}
 use Rattle.report_cells.specs.declared.Entry.{Entry}
 use Rattle.report_cells.specs.declared.Line.{Line}
 use Rattle.report_cells.specs.declared.Line.the-variants.{Nothing, Header, Kept}
 use Rattle.report.specs.Report.{lineAt, linesFrom, reportText}
-
-module _ (l : List ℕ) (n i : ℕ) where
-  pub from-end : n ≤ i → from l (n - i) i ≡ []
-  unfolding from
-  from-end past = rw (left-none n i past)
-
-  pub from-step : i < n → from l (n - i) i ≡ getD l i 0 ∷ from l (n - (i + 1)) (i + 1)
-  unfolding from
-  from-step more = rw (left-one n i more)
-
-pub from-length : (l : List ℕ) (m i : ℕ) → length (from l m i) ≡ m
-unfolding from
-from-length l zero i = refl
-from-length l (suc m) i = ap suc (from-length l m (i + 1))
 
 module _ (line : Line) (n k : ℕ) where
   pub cells-end : n ≤ k → cellsFrom line (n - k) k ≡ []
@@ -56,7 +43,7 @@ module _ (ws : List ℕ) (n i : ℕ) where
   lines-step more = rw (left-one n i more)
 
 pub spelled-length : {cell : Cell} {t : List ℕ} → Spells cell t → length t ≡ cell .count
-spelled-length {cell} s = ap length (sym (s .reads)) ∙ from-length (cell .byte) (cell .count) 0
+spelled-length {cell} s = ap length (sym (s .reads)) ∙ values-length (λ j. getD (cell .byte) j 0) (cell .count) 0
 
 pub cells-length :
     (line : Line) (n k : ℕ) {cell : Cell} → k < n → Spells cell (cellText line k)
@@ -67,13 +54,13 @@ cells-length line n k more s =
     ∙ ap (λ (m : ℕ). m + length (cellsFrom line (n - (k + 1)) (k + 1))) (length-append (cellText line k) (endingOf k ∷ []))
     ∙ ap (λ (m : ℕ). m + 1 + length (cellsFrom line (n - (k + 1)) (k + 1))) (spelled-length s)
 
-few-of : (line : Line) → columnsOf line ≤ 5
+few-of : (line : Line) → columnsOf line ≤ columns
 unfolding columnsOf
 few-of Nothing = omega arith
 few-of Header = omega arith
 few-of (Kept e) = omega arith
 
-pub columns-few : (line : Line) {n : ℕ} → n ≡ columnsOf line → n ≤ 5
+pub columns-few : (line : Line) {n : ℕ} → n ≡ columnsOf line → n ≤ columns
 columns-few line is = rw is (few-of line)
 
 -- all of a line is left at its start, and nothing of it at its end
@@ -115,6 +102,6 @@ module _ (ws : List ℕ) (n i sum : ℕ) {all : ℕ} (so-far : sum + length (lin
   pub lines-done : n ≤ i → sum ≡ all
   lines-done past = let l : length (linesFrom ws (n - i) i) ≡ 0 = ap length (lines-end ws n i past) in omega arith
 
--- a cell and its ending have at most eleven bytes
-pub few-more : (sum k : ℕ) {cell : Cell} {t : List ℕ} → Spells cell t → sum ≤ 11 * k → sum + cell .count + 1 ≤ 11 * (k + 1)
+-- a cell and its ending have at most cellMost + 1 bytes
+pub few-more : (sum k : ℕ) {cell : Cell} {t : List ℕ} → Spells cell t → sum ≤ (cellMost + 1) * k → sum + cell .count + 1 ≤ (cellMost + 1) * (k + 1)
 few-more sum k s small = let f = s .few in omega arith

@@ -3,9 +3,11 @@
 ghost use mathlib.Core.Path.{_≡_};
 ghost use Prim.Native.Nat.{_+_, _≤_, _<_};
 ghost use lib.ListN.{getD, length};
+ghost use Rattle.book_words.specs.Layout.{slotsMost};
 ghost use Rattle.report_cells.specs.Cells.{lineText};
 ghost use Rattle.report.specs.Report.{Put, Reported, lineAt, linesFrom, reportText};
 use book_words::BOOK_WORDS;
+use book_words::KEYS;
 use ids::Request;
 use ids::Unpacked;
 use report_cells::Entry;
@@ -37,10 +39,10 @@ pub fn report(book: &[u64; BOOK_WORDS], out: &mut [u8]) -> Written
 
 // The line of a slot.
 fn line_at(book: &[u64; BOOK_WORDS], i: usize) -> Line
-    requires { ⌜ i < 64 ⌝ }
+    requires { ⌜ i < slotsMost ⌝ }
     ensures { λ r. ⌜ r ≡ lineAt (now (book .entry)) i ⌝ }
 {
-    let key = book[11 + i];
+    let key = book[KEYS + i];
     if key == 0 {
         return Line::Nothing;
     }
@@ -61,7 +63,7 @@ fn line_at(book: &[u64; BOOK_WORDS], i: usize) -> Line
 
 // How many bytes the text has.
 fn text_length(book: &[u64; BOOK_WORDS]) -> usize
-    requires { ⌜ getD (now book) 0 0 ≤ 64 ⌝ }
+    requires { ⌜ getD (now book) 0 0 ≤ slotsMost ⌝ }
     ensures { λ r. ⌜ r ≡ length (reportText (now (book .entry))) ⌝ }
 {
     let slots = book[0] as usize;
@@ -77,7 +79,7 @@ fn text_length(book: &[u64; BOOK_WORDS]) -> usize
 
 // Writes the lines of the held slots, from a place on.
 fn put_lines(book: &[u64; BOOK_WORDS], out: &mut [u8], at: usize) -> usize
-    requires { ⌜ (getD (now book) 0 0 ≤ 64) × (at + length (linesFrom (now book) (getD (now book) 0 0) 0) ≤ length (now out)) ⌝ }
+    requires { ⌜ (getD (now book) 0 0 ≤ slotsMost) × (at + length (linesFrom (now book) (getD (now book) 0 0) 0) ≤ length (now out)) ⌝ }
     ensures { λ r. ⌜ Put (linesFrom (now (book .entry)) (getD (now (book .entry)) 0 0) 0) (now (out .entry)) at r (now (out .exit)) ⌝ }
 {
     let slots = book[0] as usize;

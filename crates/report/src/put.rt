@@ -1,18 +1,19 @@
 // A line of the report: its length, and its bytes put into a lent buffer from a place on.
 // Meets `Put` of specs/Report.antt.
 ghost use mathlib.Core.Path.{_≡_};
-ghost use Prim.Native.Nat.{_+_, _≤_};
+ghost use Prim.Native.Nat.{_+_, _*_, _≤_};
 ghost use mathlib.Core.List.{[], _∷_, _++_};
 ghost use lib.ListN.{length};
-ghost use Rattle.report_cells.specs.Text.{from};
-ghost use Rattle.report_cells.specs.Cells.{lineText};
+ghost use Rattle.placed.specs.From.{from};
+ghost use Rattle.report_cells.specs.Text.{cellMost};
+ghost use Rattle.report_cells.specs.Cells.{columns, lineText};
 ghost use Rattle.report.specs.Report.{Put};
 use report_cells::Cell;
 use report_cells::Line;
 
 // How many bytes a line has.
 pub fn line_length(line: Line) -> usize
-    ensures { λ r. ⌜ (r ≡ length (lineText line)) × (r ≤ 55) ⌝ }
+    ensures { λ r. ⌜ (r ≡ length (lineText line)) × (r ≤ columns * (cellMost + 1)) ⌝ }
 {
     let n = report_cells::columns(line);
     let mut sum: usize = 0;
@@ -44,7 +45,7 @@ pub fn put_line(out: &mut [u8], at: usize, line: Line) -> usize
 
 // Writes a cell and the byte that ends it.
 fn put_cell(out: &mut [u8], at: usize, cell: Cell, ending: u8) -> usize
-    requires { ⌜ (cell .count ≤ 10) × (at + cell .count + 1 ≤ length (now out)) ⌝ }
+    requires { ⌜ (cell .count ≤ cellMost) × (at + cell .count + 1 ≤ length (now out)) ⌝ }
     ensures { λ r. ⌜ Put (from (cell .byte) (cell .count) 0 ++ (ending ∷ [])) (now (out .entry)) at r (now (out .exit)) ⌝ }
 {
     let mut j: usize = 0;

@@ -1,5 +1,4 @@
 -- The cells by their lines and columns, one law for each way out of the code.
---     nothing-spelled, dash-spelled                no text; a dash
 --     header-0 .. header-4                         the columns' names
 --     kept-0 .. kept-4                             a held slot's cells
 --     stream-spelled, without-spelled, with-spelled     the request
@@ -11,16 +10,13 @@
 --     columns-nothing, columns-header, columns-kept    how many there are
 --     ends-line, ends-cell                         what follows a cell
 -- Assumes: nothing.
-use Prim.Native.Nat.{ℕ}
-use native.Mathlib.Omega.{arith}
-use mathlib.Core.Path.{_≡_, refl, sym, ap, _∙_}
+use Prim.Native.Nat.{ℕ, _-_}
+use mathlib.Core.Path.{_≡_}
 use mathlib.Core.Bool.{Bool, true, false}
-use mathlib.Core.List.{List, [], _∷_}
-use Prim.Native.String.{String}
+use mathlib.Core.List.{[]}
 use borrow.Author.Tests.{ne-eqb}
 use Rattle.bit_fields.proofs.ChoiceLaws.{if-eq, if-not-eq}
 use Rattle.ids.specs.declared.Request.{Request}
-use Rattle.ids.specs.declared.Substream.{Substream}
 use Rattle.ids.specs.declared.SubstreamId.{SubstreamId}
 use Rattle.ids.specs.declared.Substream.the-variants.{Without, With}
 use Rattle.registers.specs.declared.Registers.{Registers}
@@ -28,52 +24,54 @@ use Rattle.answers.specs.Outcome.{recorded}
 use Rattle.answers.specs.declared.Translation.{Translation}
 use Rattle.answers.specs.declared.Outcome.{Outcome}
 use Rattle.answers.specs.declared.Outcome.the-variants.{Translate, Bypass, BypassGlobal, Abort, Quiet, Unserved}
-use Rattle.report_cells.specs.Text.{Spells, bytes, decimalText, digits, from, hexUpper}
-use Rattle.report_cells.specs.Cells.{abortText, cellText, columnsOf, endingOf, eventText, headerText, keptText, outcomeText, streamText, substreamText}
+use Rattle.report_cells.specs.Text.{Spells, bytes, decimalText, slotText, hexLower, hexUpper}
+use Rattle.report_cells.specs.Cells.{
+  streamDigits,
+  substreamDigits,
+  eventDigits,
+  columns,
+  abortText,
+  cellText,
+  columnsOf,
+  endingOf,
+  eventText,
+  headerText,
+  keptText,
+  outcomeText,
+  streamText,
+  substreamText,
+}
 use Rattle.report_cells.specs.declared.Cell.{Cell}
 use Rattle.report_cells.specs.declared.Entry.{Entry}
 use Rattle.report_cells.specs.declared.Line.{Line}
 use Rattle.report_cells.specs.declared.Line.the-variants.{Nothing, Header, Kept}
-use Rattle.report_cells.proofs.TextLaws.{spells-as, all-eight, last-five, last-two, lower-eight, lower-five, upper-two}
+use Rattle.report_cells.proofs.TextLaws.{spells-as}
 
--- a word and the blanks that fill its cell
-abbrev word : ℕ → String → Cell
-word n padded = record { count = n; byte = bytes padded }
+module _ {cell : Cell} (column : ℕ) where
+  pub header-0 : column ≡ 0 → Spells cell (bytes "slot") → Spells cell (headerText column)
+  unfolding headerText
+  header-0 is = spells-as (rw is)
 
-pub nothing-spelled : Spells (record { count = 0; byte = 0 ∷ (0 ∷ (0 ∷ (0 ∷ (0 ∷ (0 ∷ (0 ∷ (0 ∷ (0 ∷ (0 ∷ []))))))))) }) []
-unfolding from
-nothing-spelled = record { reads = refl; few = omega arith }
+  pub header-1 : column ≡ 1 → Spells cell (bytes "stream") → Spells cell (headerText column)
+  unfolding headerText
+  header-1 is = spells-as (rw is)
 
-pub dash-spelled : Spells (word 1 "-         ") (bytes "-")
-unfolding from
-dash-spelled = record { reads = refl; few = omega arith }
+  pub header-2 : column ≡ 2 → Spells cell (bytes "substream") → Spells cell (headerText column)
+  unfolding headerText
+  header-2 is = spells-as (rw is)
 
-module _ (column : ℕ) where
-  pub header-0 : column ≡ 0 → Spells (word 4 "slot      ") (headerText column)
-  unfolding headerText from
-  header-0 is = rw is (record { reads = refl; few = omega arith })
-
-  pub header-1 : column ≡ 1 → Spells (word 6 "stream    ") (headerText column)
-  unfolding headerText from
-  header-1 is = rw is (record { reads = refl; few = omega arith })
-
-  pub header-2 : column ≡ 2 → Spells (word 9 "substream ") (headerText column)
-  unfolding headerText from
-  header-2 is = rw is (record { reads = refl; few = omega arith })
-
-  pub header-3 : column ≡ 3 → Spells (word 7 "outcome   ") (headerText column)
-  unfolding headerText from
-  header-3 is = rw is (record { reads = refl; few = omega arith })
+  pub header-3 : column ≡ 3 → Spells cell (bytes "outcome") → Spells cell (headerText column)
+  unfolding headerText
+  header-3 is = spells-as (rw is)
 
   pub header-4 :
       (column ≡ 0 → ⊥) → (column ≡ 1 → ⊥) → (column ≡ 2 → ⊥) → (column ≡ 3 → ⊥)
-      → Spells (word 5 "event     ") (headerText column)
-  unfolding headerText from
-  header-4 n0 n1 n2 n3 =
-      simp (ne-eqb _ _ n0, ne-eqb _ _ n1, ne-eqb _ _ n2, ne-eqb _ _ n3) (record { reads = refl; few = omega arith })
+      → Spells cell (bytes "event") → Spells cell (headerText column)
+  unfolding headerText
+  header-4 n0 n1 n2 n3 = spells-as (simp (ne-eqb _ _ n0, ne-eqb _ _ n1, ne-eqb _ _ n2, ne-eqb _ _ n3))
 
 module _ {cell : Cell} (e : Entry) (column : ℕ) where
-  pub kept-0 : column ≡ 0 → Spells cell (decimalText (e .slot)) → Spells cell (keptText e column)
+  pub kept-0 : column ≡ 0 → Spells cell (slotText (e .slot)) → Spells cell (keptText e column)
   unfolding keptText
   kept-0 is = spells-as (rw is)
 
@@ -95,62 +93,60 @@ module _ {cell : Cell} (e : Entry) (column : ℕ) where
   unfolding keptText
   kept-4 n0 n1 n2 n3 = spells-as (simp (ne-eqb _ _ n0, ne-eqb _ _ n1, ne-eqb _ _ n2, ne-eqb _ _ n3))
 
-module _ (request : Request) {d : List ℕ} where
-  pub stream-spelled :
-      d ≡ digits (bytes "0123456789abcdef") 16 8 (request .stream .number) → Spells (all-eight d) (streamText request)
+module _ {cell : Cell} (request : Request) where
+  pub stream-spelled : Spells cell (hexLower streamDigits (request .stream .number)) → Spells cell (streamText request)
   unfolding streamText
-  stream-spelled = lower-eight (request .stream .number)
+  stream-spelled said = said
 
   pub with-spelled :
-      {s : SubstreamId} → request .substream ≡ With s → d ≡ digits (bytes "0123456789abcdef") 16 8 (s .number)
-      → Spells (last-five d) (substreamText request)
+      {s : SubstreamId} → request .substream ≡ With s → Spells cell (hexLower substreamDigits (s .number)) → Spells cell (substreamText request)
   unfolding substreamText
-  with-spelled {s} is said = rw is (lower-five (s .number) said)
+  with-spelled is = spells-as (rw is)
 
-pub without-spelled : {cell : Cell} (request : Request) → request .substream ≡ Without → Spells cell (bytes "-") → Spells cell (substreamText request)
-unfolding substreamText
-without-spelled request is = spells-as (rw is)
+  pub without-spelled : request .substream ≡ Without → Spells cell (bytes "-") → Spells cell (substreamText request)
+  unfolding substreamText
+  without-spelled is = spells-as (rw is)
 
-module _ (r : Registers) (o : Outcome) where
-  pub translates : {t : Translation} → o ≡ Translate t → Spells (word 9 "translate ") (outcomeText r o)
-  unfolding outcomeText from
-  translates is = rw is (record { reads = refl; few = omega arith })
+module _ {cell : Cell} (r : Registers) (o : Outcome) where
+  pub translates : {t : Translation} → o ≡ Translate t → Spells cell (bytes "translate") → Spells cell (outcomeText r o)
+  unfolding outcomeText
+  translates is = spells-as (rw is)
 
-  pub bypasses : {ste : ℕ} → o ≡ Bypass ste → Spells (word 6 "bypass    ") (outcomeText r o)
-  unfolding outcomeText from
-  bypasses is = rw is (record { reads = refl; few = omega arith })
+  pub bypasses : {ste : ℕ} → o ≡ Bypass ste → Spells cell (bytes "bypass") → Spells cell (outcomeText r o)
+  unfolding outcomeText
+  bypasses is = spells-as (rw is)
 
-  pub bypasses-all : o ≡ BypassGlobal → Spells (word 6 "bypass    ") (outcomeText r o)
-  unfolding outcomeText from
-  bypasses-all is = rw is (record { reads = refl; few = omega arith })
+  pub bypasses-all : o ≡ BypassGlobal → Spells cell (bytes "bypass") → Spells cell (outcomeText r o)
+  unfolding outcomeText
+  bypasses-all is = spells-as (rw is)
 
-  pub is-quiet : o ≡ Quiet → Spells (word 5 "quiet     ") (outcomeText r o)
-  unfolding outcomeText from
-  is-quiet is = rw is (record { reads = refl; few = omega arith })
+  pub is-quiet : o ≡ Quiet → Spells cell (bytes "quiet") → Spells cell (outcomeText r o)
+  unfolding outcomeText
+  is-quiet is = spells-as (rw is)
 
-  pub not-served : {n : ℕ} → o ≡ Unserved n → Spells (word 8 "unserved  ") (outcomeText r o)
-  unfolding outcomeText from
-  not-served is = rw is (record { reads = refl; few = omega arith })
+  pub not-served : {n : ℕ} → o ≡ Unserved n → Spells cell (bytes "unserved") → Spells cell (outcomeText r o)
+  unfolding outcomeText
+  not-served is = spells-as (rw is)
 
-  pub aborts : {cell : Cell} {event : ℕ} {b : Bool} → o ≡ Abort event → b ≡ recorded r event → Spells cell (abortText b) → Spells cell (outcomeText r o)
+  pub aborts : {event : ℕ} {b : Bool} → o ≡ Abort event → b ≡ recorded r event → Spells cell (abortText b) → Spells cell (outcomeText r o)
   unfolding outcomeText
   aborts is said = spells-as (rw (is, said))
 
-pub recorded-spelled : {b : Bool} → b ≡ true → Spells (word 5 "abort     ") (abortText b)
-unfolding abortText from
-recorded-spelled is = rw is (record { reads = refl; few = omega arith })
+module _ {cell : Cell} {b : Bool} where
+  pub recorded-spelled : b ≡ true → Spells cell (bytes "abort") → Spells cell (abortText b)
+  unfolding abortText
+  recorded-spelled is = spells-as (rw is)
 
-pub unrecorded-spelled : {b : Bool} → b ≡ false → Spells (word 10 "unrecorded") (abortText b)
-unfolding abortText from
-unrecorded-spelled is = rw is (record { reads = refl; few = omega arith })
+  pub unrecorded-spelled : b ≡ false → Spells cell (bytes "unrecorded") → Spells cell (abortText b)
+  unfolding abortText
+  unrecorded-spelled is = spells-as (rw is)
 
 module _ (o : Outcome) where
-  pub event-spelled :
-      {d : List ℕ} {event : ℕ} → o ≡ Abort event → d ≡ digits (bytes "0123456789ABCDEF") 16 8 event → Spells (last-two d) (eventText o)
-  unfolding eventText
-  event-spelled {d} {event} is said = rw is (upper-two event said)
-
   module _ {cell : Cell} where
+    pub event-spelled : {event : ℕ} → o ≡ Abort event → Spells cell (hexUpper eventDigits event) → Spells cell (eventText o)
+    unfolding eventText
+    event-spelled is = spells-as (rw is)
+
     pub case-spelled : {n : ℕ} → o ≡ Unserved n → Spells cell (decimalText n) → Spells cell (eventText o)
     unfolding eventText
     case-spelled is = spells-as (rw is)
@@ -189,19 +185,19 @@ module _ (line : Line) where
   unfolding columnsOf
   columns-nothing is = rw is
 
-  pub columns-header : line ≡ Header → 5 ≡ columnsOf line
+  pub columns-header : line ≡ Header → columns ≡ columnsOf line
   unfolding columnsOf
   columns-header is = rw is
 
-  pub columns-kept : {e : Entry} → line ≡ Kept e → 5 ≡ columnsOf line
+  pub columns-kept : {e : Entry} → line ≡ Kept e → columns ≡ columnsOf line
   unfolding columnsOf
   columns-kept is = rw is
 
 module _ (column : ℕ) where
-  pub ends-line : column ≡ 4 → 10 ≡ endingOf column
+  pub ends-line : column ≡ columns - 1 → 10 ≡ endingOf column
   unfolding endingOf
   ends-line is = if-eq _ _ _ _ is
 
-  pub ends-cell : (column ≡ 4 → ⊥) → 9 ≡ endingOf column
+  pub ends-cell : (column ≡ columns - 1 → ⊥) → 9 ≡ endingOf column
   unfolding endingOf
   ends-cell is = if-not-eq _ _ _ _ is

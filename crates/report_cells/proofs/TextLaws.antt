@@ -1,79 +1,108 @@
 -- Cells that spell a text.
 --     spells-as              a cell spells what is equal to what it spells
---     eight                  eight digits, one by one
---     lower-eight, lower-five, upper-two     the digits of a cell, from those eight
---     one-digit, two-digits  a number below 100
+--     Copying, word-starts, word-more, word-whole       a word, byte by byte
+--     Counting, digits-start, digits-more, digits-whole  digits, from the last one on
+--     one-digit, two-digits, small-slot, three-digits   a number in decimal
 -- Assumes: nothing.
-use Prim.Native.Nat.{ℕ, _+_, _/_, _%_, _≤_, _<_}
+use Prim.Native.Nat.{ℕ, suc, _+_, _-_, _/_, _%_, _≤_, _<_}
 use native.Mathlib.Omega.{arith}
+use native.Mathlib.Nat.{sub-zero, sub-self, zero-add}
 use mathlib.Core.Path.{_≡_, refl, sym, ap, _∙_}
-use mathlib.Core.List.{List, [], _∷_}
+use mathlib.Core.List.{List, [], _∷_, _++_, append-assoc, append-nil}
 use borrow.Author.Tests.{lt-ltb, le-ltb}
-use lib.ListN.{getD}
-use Rattle.report_cells.specs.Text.{Spells, bytes, decimalText, digitAt, digits, from, hexLower, hexUpper}
+use lib.ListN.{getD, set, length, length-set, length-replicate, replicate}
+use lib.Seq.{getD-set-same, getD-set-other}
+use Rattle.placed.specs.From.{valuesFrom, from}
+use Rattle.placed.specs.Placed.{Left, placed}
+use Rattle.placed.proofs.FromLaws.{values-end, values-step, values-same, values-list}
+use Rattle.placed.proofs.PlacedLaws.{placed-at}
+use Rattle.placed.proofs.LeftLaws.{left-all, left-one, left-placed}
+use Rattle.report_cells.specs.Text.{Spells, bytes, cellMost, decimalText, slotText, digitAt, digits}
 use Rattle.report_cells.specs.declared.Cell.{Cell}
 
 pub spells-as : {cell : Cell} {t u : List ℕ} → t ≡ u → Spells cell t → Spells cell u
 spells-as e s = record { reads = s .reads ∙ e; few = s .few }
 
-module _ (letters : List ℕ) (n : ℕ) {d0 d1 d2 d3 d4 d5 d6 d7 : ℕ} where
-  pub eight :
-      d0 ≡ digitAt letters 16 (n / 16 / 16 / 16 / 16 / 16 / 16 / 16)
-      → d1 ≡ digitAt letters 16 (n / 16 / 16 / 16 / 16 / 16 / 16)
-      → d2 ≡ digitAt letters 16 (n / 16 / 16 / 16 / 16 / 16)
-      → d3 ≡ digitAt letters 16 (n / 16 / 16 / 16 / 16)
-      → d4 ≡ digitAt letters 16 (n / 16 / 16 / 16)
-      → d5 ≡ digitAt letters 16 (n / 16 / 16)
-      → d6 ≡ digitAt letters 16 (n / 16)
-      → d7 ≡ digitAt letters 16 n
-      → d0 ∷ (d1 ∷ (d2 ∷ (d3 ∷ (d4 ∷ (d5 ∷ (d6 ∷ (d7 ∷ []))))))) ≡ digits letters 16 8 n
-  unfolding digits
-  eight e0 e1 e2 e3 e4 e5 e6 e7 = rw (e0, e1, e2, e3, e4, e5, e6, e7)
+-- a word: j of its bytes were copied
+module _ (text : List ℕ) where
+  abbrev pub Copying : List ℕ → ℕ → Type 0
+  Copying now j = Left (replicate cellMost 0) 0 text now j (from text (length text - j) j)
 
--- the cell that holds some of eight digits
-abbrev pub all-eight : List ℕ → Cell
-all-eight d =
-    record {
-      count = 8;
-      byte = getD d 0 0 ∷ (getD d 1 0 ∷ (getD d 2 0 ∷ (getD d 3 0 ∷ (getD d 4 0 ∷ (getD d 5 0 ∷ (getD d 6 0 ∷ (getD d 7 0 ∷ (0 ∷ (0 ∷ [])))))))));
-    }
+  pub word-starts : length text ≤ cellMost → Copying (replicate cellMost 0) 0
+  word-starts fits = rw (sub-zero, values-list text) (left-all (replicate cellMost 0) 0 text (omega arith))
 
-abbrev pub last-five : List ℕ → Cell
-last-five d =
-    record {
-      count = 5;
-      byte = getD d 3 0 ∷ (getD d 4 0 ∷ (getD d 5 0 ∷ (getD d 6 0 ∷ (getD d 7 0 ∷ (0 ∷ (0 ∷ (0 ∷ (0 ∷ (0 ∷ [])))))))));
-    }
+  module _ {now : List ℕ} {j : ℕ} (so-far : Copying now j) where
+    pub word-more : j < length text → Copying (set now j (getD text j 0)) (j + 1)
+    word-more more = left-one so-far (getD text j 0) _ (values-step (λ k. getD text k 0) (length text) j more) refl
 
-abbrev pub last-two : List ℕ → Cell
-last-two d =
-    record {
-      count = 2;
-      byte = getD d 6 0 ∷ (getD d 7 0 ∷ (0 ∷ (0 ∷ (0 ∷ (0 ∷ (0 ∷ (0 ∷ (0 ∷ (0 ∷ [])))))))));
-    }
+    pub word-whole : length text ≤ cellMost → j ≤ length text → length text ≤ j → Spells (record { count = j; byte = now }) text
+    word-whole fits most least =
+        let all : j ≡ length text = omega arith in
+        let is : now ≡ placed (replicate cellMost 0) 0 text = left-placed so-far (values-end (λ k. getD text k 0) (length text) j least) in
+        record {
+          reads =
+              rw (all, is)
+              (values-same (λ k. getD (placed (replicate cellMost 0) 0 text) k 0) (λ k. getD text k 0) (length text) 0
+              (λ k low high. ap (λ (x : ℕ). getD (placed (replicate cellMost 0) 0 text) x 0) (sym (zero-add k))
+              ∙ placed-at (replicate cellMost 0) 0 text (omega arith) k (omega arith))
+              ∙ values-list text);
+          few = omega arith;
+        }
 
-module _ (n : ℕ) {d : List ℕ} where
-  pub lower-eight : d ≡ digits (bytes "0123456789abcdef") 16 8 n → Spells (all-eight d) (hexLower 8 n)
-  unfolding digits from
-  lower-eight said = rw said (record { reads = refl; few = omega arith })
+-- digits: all but the first j were written
+module _ (letters : List ℕ) (base w n : ℕ) where
+  pub record Counting (now : List ℕ) (rest j : ℕ) : Type 0 where
+    pub room : length now ≡ cellMost
+    pub most : j ≤ w
+    pub left : digits letters base j rest ++ from now (w - j) j ≡ digits letters base w n
 
-  pub lower-five : d ≡ digits (bytes "0123456789abcdef") 16 8 n → Spells (last-five d) (hexLower 5 n)
-  unfolding digits from
-  lower-five said = rw said (record { reads = refl; few = omega arith })
+  pub digits-start : Counting (replicate cellMost 0) n w
+  unfolding valuesFrom
+  digits-start = record { room = refl; most = omega arith; left = rw sub-self (append-nil (digits letters base w n)) }
 
-  pub upper-two : d ≡ digits (bytes "0123456789ABCDEF") 16 8 n → Spells (last-two d) (hexUpper 2 n)
-  unfolding digits from
-  upper-two said = rw said (record { reads = refl; few = omega arith })
+  module _ (fits : w ≤ cellMost) {now : List ℕ} {rest j : ℕ} (so-far : Counting now rest j) where
+    pub digits-more : 0 < j → {d : ℕ} → d ≡ digitAt letters base rest → Counting (set now (j - 1) d) (rest / base) (j - 1)
+    unfolding digits
+    digits-more some {d} is =
+        record {
+          room = length-set now (j - 1) d ∙ so-far .room;
+          most = let m = so-far .most in omega arith;
+          left = step (j - 1) (omega arith);
+        }
+      where
+        step : (k : ℕ) → j ≡ suc k → digits letters base k (rest / base) ++ from (set now k d) (w - k) k ≡ digits letters base w n
+        step k next =
+            let m = so-far .most in
+            let r = so-far .room in
+            let more : k < w = omega arith in
+            let plus : suc k ≡ k + 1 = omega arith in
+            let here : getD (set now k d) k 0 ≡ d = getD-set-same now k d 0 (omega arith) in
+            let above : from (set now k d) (w - (k + 1)) (k + 1) ≡ from now (w - (k + 1)) (k + 1)
+            = values-same (λ i. getD (set now k d) i 0) (λ i. getD now i 0) (w - (k + 1)) (k + 1)
+            (λ i low high. getD-set-other now k i d 0 (λ e. omega arith)) in
+            rw (values-step (λ i. getD (set now k d) i 0) w k more, here, above, is)
+            (sym (append-assoc (digits letters base k (rest / base)) (digitAt letters base rest ∷ []) (from now (w - (k + 1)) (k + 1)))
+            ∙ rw (← plus) (rw next at (so-far .left)))
 
-module _ (n : ℕ) {ones : ℕ} where
-  pub one-digit :
-      n < 10 → ones ≡ digitAt (bytes "0123456789") 10 n
-      → Spells (record { count = 1; byte = ones ∷ (0 ∷ (0 ∷ (0 ∷ (0 ∷ (0 ∷ (0 ∷ (0 ∷ (0 ∷ (0 ∷ []))))))))) }) (decimalText n)
-  unfolding decimalText digits from
-  one-digit small is = rw is (simp (lt-ltb _ _ small) (record { reads = refl; few = omega arith }))
+    pub digits-whole : j ≤ 0 → Spells (record { count = w; byte = now }) (digits letters base w n)
+    unfolding digits
+    digits-whole none =
+        let zero : j ≡ 0 = omega arith in
+        record { reads = rw sub-zero at (rw zero at (so-far .left)); few = fits }
 
-  pub two-digits :
-      {tens : ℕ} → 10 ≤ n → tens ≡ digitAt (bytes "0123456789") 10 (n / 10) → ones ≡ digitAt (bytes "0123456789") 10 n
-      → Spells (record { count = 2; byte = tens ∷ (ones ∷ (0 ∷ (0 ∷ (0 ∷ (0 ∷ (0 ∷ (0 ∷ (0 ∷ (0 ∷ []))))))))) }) (decimalText n)
-  unfolding decimalText digits from
-  two-digits large is more = rw (is, more) (simp (le-ltb _ _ large) (record { reads = refl; few = omega arith }))
+module _ (n : ℕ) {cell : Cell} where
+  pub one-digit : n < 10 → Spells cell (digits (bytes "0123456789") 10 1 n) → Spells cell (decimalText n)
+  unfolding decimalText
+  one-digit small = spells-as (simp (lt-ltb _ _ small))
+
+  pub two-digits : 10 ≤ n → Spells cell (digits (bytes "0123456789") 10 2 n) → Spells cell (decimalText n)
+  unfolding decimalText
+  two-digits large = spells-as (simp (le-ltb _ _ large))
+
+  pub small-slot : n < 100 → Spells cell (decimalText n) → Spells cell (slotText n)
+  unfolding slotText
+  small-slot small = spells-as (simp (lt-ltb _ _ small))
+
+  pub three-digits : 100 ≤ n → Spells cell (digits (bytes "0123456789") 10 3 n) → Spells cell (slotText n)
+  unfolding slotText
+  three-digits large = spells-as (simp (le-ltb _ _ large))

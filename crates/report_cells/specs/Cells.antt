@@ -2,7 +2,7 @@
 --     lineText       a line: its cells parted by one tab, and a line feed: start here
 --     cellText       a line's cell in a column: 0 slot, 1 stream, 2 substream, 3 outcome, 4 event
 -- Assumes: nothing.
-use Prim.Native.Nat.{ℕ, zero, suc, _+_}
+use Prim.Native.Nat.{ℕ, zero, suc, _+_, _-_}
 use mathlib.Core.Bool.{Bool, true, false}
 use mathlib.Core.List.{List, [], _∷_, _++_}
 use lib.Dec.{eqb}
@@ -14,10 +14,24 @@ use Rattle.registers.specs.declared.Registers.{Registers}
 use Rattle.answers.specs.Outcome.{recorded}
 use Rattle.answers.specs.declared.Outcome.{Outcome}
 use Rattle.answers.specs.declared.Outcome.the-variants.{Translate, Bypass, BypassGlobal, Abort, Quiet, Unserved}
-use Rattle.report_cells.specs.Text.{bytes, decimalText, hexLower, hexUpper}
+use Rattle.report_cells.specs.Text.{bytes, decimalText, slotText, hexLower, hexUpper}
 use Rattle.report_cells.specs.declared.Entry.{Entry}
 use Rattle.report_cells.specs.declared.Line.{Line}
 use Rattle.report_cells.specs.declared.Line.the-variants.{Nothing, Header, Kept}
+
+-- the digits of a StreamID, a SubstreamID and an event
+abbrev pub streamDigits : ℕ
+streamDigits = 8
+
+abbrev pub substreamDigits : ℕ
+substreamDigits = 5
+
+abbrev pub eventDigits : ℕ
+eventDigits = 2
+
+-- how many cells a line has
+abbrev pub columns : ℕ
+columns = 5
 
 unfoldable pub headerText : ℕ → List ℕ
 headerText column =
@@ -28,11 +42,11 @@ headerText column =
     else bytes "event"
 
 unfoldable pub streamText : Request → List ℕ
-streamText request = hexLower 8 (request .stream .number)
+streamText request = hexLower streamDigits (request .stream .number)
 
 abbrev pub substreamIn : Substream → List ℕ
 substreamIn Without = bytes "-"
-substreamIn (With s) = hexLower 5 (s .number)
+substreamIn (With s) = hexLower substreamDigits (s .number)
 
 unfoldable pub substreamText : Request → List ℕ
 substreamText request = substreamIn (request .substream)
@@ -53,13 +67,13 @@ unfoldable pub eventText : Outcome → List ℕ
 eventText (Translate t) = bytes "-"
 eventText (Bypass ste) = bytes "-"
 eventText BypassGlobal = bytes "-"
-eventText (Abort event) = hexUpper 2 event
+eventText (Abort event) = hexUpper eventDigits event
 eventText Quiet = bytes "-"
 eventText (Unserved n) = decimalText n
 
 unfoldable pub keptText : Entry → ℕ → List ℕ
 keptText e column =
-    if eqb column 0 then decimalText (e .slot)
+    if eqb column 0 then slotText (e .slot)
     else if eqb column 1 then streamText (e .request)
     else if eqb column 2 then substreamText (e .request)
     else if eqb column 3 then outcomeText (e .registers) (e .outcome)
@@ -73,8 +87,8 @@ cellText (Kept e) column = keptText e column
 -- an empty slot has no line
 unfoldable pub columnsOf : Line → ℕ
 columnsOf Nothing = 0
-columnsOf Header = 5
-columnsOf (Kept e) = 5
+columnsOf Header = columns
+columnsOf (Kept e) = columns
 
 abbrev pub tabStop : ℕ
 tabStop = 9
@@ -85,7 +99,7 @@ lineFeed = 10
 -- what follows the cell in a column: a line feed after the last, a tab after the others
 unfoldable pub endingOf : ℕ → ℕ
 endingOf column =
-    if eqb column 4 then lineFeed
+    if eqb column (columns - 1) then lineFeed
     else tabStop
 
 -- m cells from a column on, each with what follows it

@@ -7,15 +7,20 @@ ghost use Rattle.report_cells.specs.Cells.{cellText, columnsOf, endingOf
 use answers::Outcome;
 use ids::Request;
 use registers::Registers;
-use text::decimal;
 
 mod cells;
 mod text;
 
+// The most bytes that a cell has.
+pub const CELL_MOST: usize = 10;
+
+// How many cells a line has.
+const COLUMNS: usize = 5;
+
 // The text of a cell: the first `count` of the bytes.
 pub struct Cell {
     pub count: usize,
-    pub byte: [u8; 10],
+    pub byte: [u8; CELL_MOST],
 }
 
 // What a slot holds, and what its outcome is read by.
@@ -33,14 +38,14 @@ pub enum Line {
     Kept(Entry),
 }
 
-// How many cells a line has.
+// How many cells a line has: an empty slot's has none.
 pub fn columns(line: Line) -> usize
     ensures { λ r. ⌜ r ≡ columnsOf line ⌝ }
 {
     match line {
         Line::Nothing => 0,
-        Line::Header => 5,
-        Line::Kept(_) => 5,
+        Line::Header => COLUMNS,
+        Line::Kept(_) => COLUMNS,
     }
 }
 
@@ -49,7 +54,7 @@ pub fn cell_of(line: Line, column: usize) -> Cell
     ensures { λ r. ⌜ Spells r (cellText line column) ⌝ }
 {
     match line {
-        Line::Nothing => text::none(),
+        Line::Nothing => text::word(b""),
         Line::Header => cells::header(column),
         Line::Kept(entry) => kept(entry, column),
     }
@@ -59,7 +64,7 @@ pub fn cell_of(line: Line, column: usize) -> Cell
 pub fn ending(column: usize) -> u8
     ensures { λ r. ⌜ r ≡ endingOf column ⌝ }
 {
-    if column == 4 {
+    if column == COLUMNS - 1 {
         return b'\n';
     }
     b'\t'
@@ -71,7 +76,7 @@ fn kept(entry: Entry, column: usize) -> Cell
 {
     let outcome = entry.outcome;
     match column {
-        0 => decimal(entry.slot),
+        0 => text::slot(entry.slot),
         1 => cells::stream(entry.request),
         2 => cells::substream(entry.request),
         3 => cells::kind(entry.registers, outcome),

@@ -1,81 +1,80 @@
-// Digits, and the texts that have no digits. Meets specs/Text.antt.
+// The text of a cell: words, and numbers in digits. Meets specs/Text.antt.
 ghost use mathlib.Core.Path.{_≡_};
-ghost use mathlib.Core.List.{[]};
-ghost use Rattle.report_cells.specs.Text.{Spells, bytes, decimalText, digitAt, digits};
+ghost use Prim.Native.Nat.{_≤_, _<_};
+ghost use lib.ListN.{length};
+ghost use Rattle.report_cells.specs.Text.{Spells, cellMost, decimalText, digitAt, digits, hexLower, hexUpper, slotText};
+use super::CELL_MOST;
 use super::Cell;
 
-const DECIMAL: [u8; 10] = *b"0123456789";
-
-// The last hexadecimal digit of a number, among the sixteen that are handed in.
-fn digit(n: u64, letters: &[u8; 16]) -> u8
-    ensures { λ r. ⌜ r ≡ digitAt (now (letters .entry)) 16 n ⌝ }
+// A text as it is.
+pub fn word(text: &[u8]) -> Cell
+    requires { ⌜ length (now text) ≤ cellMost ⌝ }
+    ensures { λ r. ⌜ Spells r (now (text .entry)) ⌝ }
 {
-    let place = (n % 16) as usize;
+    let mut byte = [0u8; CELL_MOST];
+    let mut j: usize = 0;
+    while j < text.len() {
+        byte[j] = text[j];
+        j += 1;
+    }
+    Cell { count: j, byte }
+}
+
+// The last digit of a number, among those that are handed in.
+fn digit(n: u64, base: u64, letters: &[u8]) -> u8
+    requires { ⌜ (0 < base) × (base ≤ length (now letters)) ⌝ }
+    ensures { λ r. ⌜ r ≡ digitAt (now (letters .entry)) base n ⌝ }
+{
+    let place = (n % base) as usize;
     letters[place]
 }
 
-// The last eight hexadecimal digits of a number.
-pub fn hex(n: u64, letters: &[u8; 16]) -> [u8; 8]
-    ensures { λ r. ⌜ r ≡ digits (now (letters .entry)) 16 8 n ⌝ }
+// The last w digits of a number, from the last one on.
+fn digits(n: u64, base: u64, letters: &[u8], w: usize) -> Cell
+    requires { ⌜ (0 < base) × (base ≤ length (now letters)) × (w ≤ cellMost) ⌝ }
+    ensures { λ r. ⌜ Spells r (digits (now (letters .entry)) base w n) ⌝ }
 {
-    let n6 = n / 16;
-    let n5 = n6 / 16;
-    let n4 = n5 / 16;
-    let n3 = n4 / 16;
-    let n2 = n3 / 16;
-    let n1 = n2 / 16;
-    let n0 = n1 / 16;
-    let d0 = digit(n0, letters);
-    let d1 = digit(n1, letters);
-    let d2 = digit(n2, letters);
-    let d3 = digit(n3, letters);
-    let d4 = digit(n4, letters);
-    let d5 = digit(n5, letters);
-    let d6 = digit(n6, letters);
-    let d7 = digit(n, letters);
-    [d0, d1, d2, d3, d4, d5, d6, d7]
+    let mut byte = [0u8; CELL_MOST];
+    let mut rest = n;
+    let mut j = w;
+    while 0 < j {
+        j -= 1;
+        byte[j] = digit(rest, base, letters);
+        rest = rest / base;
+    }
+    Cell { count: w, byte }
 }
 
-// The last decimal digit of a number.
-fn ten(n: u64) -> u8
-    ensures { λ r. ⌜ r ≡ digitAt (bytes "0123456789") 10 n ⌝ }
+pub fn hex_lower(w: usize, n: u64) -> Cell
+    requires { ⌜ w ≤ cellMost ⌝ }
+    ensures { λ r. ⌜ Spells r (hexLower w n) ⌝ }
 {
-    let place = (n % 10) as usize;
-    DECIMAL[place]
+    digits(n, 16, b"0123456789abcdef", w)
+}
+
+pub fn hex_upper(w: usize, n: u64) -> Cell
+    requires { ⌜ w ≤ cellMost ⌝ }
+    ensures { λ r. ⌜ Spells r (hexUpper w n) ⌝ }
+{
+    digits(n, 16, b"0123456789ABCDEF", w)
 }
 
 // A number below 100, in decimal, without leading zeros.
 pub fn decimal(n: u64) -> Cell
     ensures { λ r. ⌜ Spells r (decimalText n) ⌝ }
 {
-    let tens = ten(n / 10);
-    let ones = ten(n);
     if n < 10 {
-        return Cell {
-            count: 1,
-            byte: [ones, 0, 0, 0, 0, 0, 0, 0, 0, 0],
-        };
+        return digits(n, 10, b"0123456789", 1);
     }
-    Cell {
-        count: 2,
-        byte: [tens, ones, 0, 0, 0, 0, 0, 0, 0, 0],
-    }
+    digits(n, 10, b"0123456789", 2)
 }
 
-pub fn dash() -> Cell
-    ensures { λ r. ⌜ Spells r (bytes "-") ⌝ }
+// A slot, below 1,000.
+pub fn slot(n: u64) -> Cell
+    ensures { λ r. ⌜ Spells r (slotText n) ⌝ }
 {
-    Cell {
-        count: 1,
-        byte: *b"-         ",
+    if n < 100 {
+        return decimal(n);
     }
-}
-
-pub fn none() -> Cell
-    ensures { λ r. ⌜ Spells r [] ⌝ }
-{
-    Cell {
-        count: 0,
-        byte: [0; 10],
-    }
+    digits(n, 10, b"0123456789", 3)
 }

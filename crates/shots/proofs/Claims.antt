@@ -20,7 +20,8 @@ use Rattle.context_table.specs.ContextTable.{contextRule, leafBits, twoLevelRul
 use Rattle.context_entry.specs.ContextEntry.{cdRule, effectiveIps}
 use Rattle.lookup.specs.Lookup.{lookupRule, fromSte, fromEntry, fromCd, ruled, answered, lookedUp}
 use Rattle.lookup.proofs.Claims.{refused-exactly}
-use Rattle.book_words.specs.Layout.{tab}
+use Rattle.placed.specs.From.{valuesFrom, tab}
+use Rattle.placed.proofs.FromLaws.{values-length}
 use Rattle.book.specs.Book.{shares}
 use Rattle.shots.specs.Shots.{Shot, shots, byteOf, whole, clip, given, expected}
 use Rattle.shots.specs.Claims.{EachShot, Right, AllShots, RealShots, SharedSte}
@@ -73,15 +74,19 @@ all-shots = (
 
 -- a real memory from a function: its bytes are the function's, up to its end
 pub tab-length : (n : ℕ) (f : ℕ → ℕ) → length (tab n f) ≡ n
-unfolding tab
-tab-length zero f = refl
-tab-length (suc n) f = ap suc (tab-length n (λ k. f (suc k)))
+tab-length n f = values-length f n 0
+
+from-at : (n j : ℕ) (f : ℕ → ℕ) (i : ℕ) → getD (valuesFrom f n j) i 0 ≡ clip n (λ k. f (j + k)) i
+unfolding valuesFrom
+from-at zero j f i = rw (leb·suc-zero i)
+from-at (suc n) j f zero = rw (leb·suc-suc zero n, leb·zero n, add-zero)
+from-at (suc n) j f (suc i) = from-at n (j + 1) f i ∙ rw (leb·suc-suc (suc i) n, next)
+  where
+    next : j + 1 + i ≡ j + suc i
+    next = omega arith
 
 pub tab-at : (n : ℕ) (f : ℕ → ℕ) (i : ℕ) → getD (tab n f) i 0 ≡ clip n f i
-unfolding tab
-tab-at zero f i = rw (leb·suc-zero i)
-tab-at (suc n) f zero = rw (leb·suc-suc zero n, leb·zero n)
-tab-at (suc n) f (suc i) = tab-at n (λ k. f (suc k)) i ∙ rw (leb·suc-suc (suc i) n)
+tab-at n f i = from-at n 0 f i ∙ rw zero-add
 
 pub bytes-are : (n : ℕ) (f : ℕ → ℕ) → bytes (tab n f) ≡ clip n f
 bytes-are n f = fun-ext (tab-at n f)

@@ -33,8 +33,9 @@ use Rattle.context_entry.specs.ContextEntry.{cdRule, effectiveIps}
 use Rattle.lookup.specs.Lookup.{lookupRule, fromSte, fromEntry, fromCd, answered, lookedUp}
 use Rattle.lookup.specs.declared.Looked.{Looked}
 use Rattle.lookup.specs.declared.Answer.the-variants as looked
-use Rattle.book_words.specs.Layout.{tab, copied, slotsOf, keyAt, registersOf, blockAt, openedWith}
-use Rattle.book_words.specs.Malformed.{firstFrom, slotWell, wellFrom, narrowFrom, refusal7}
+use Rattle.placed.specs.From.{valuesFrom, tab, allFrom}
+use Rattle.book_words.specs.Layout.{copied, slotsOf, keyAt, registersOf, blockAt, openedWith}
+use Rattle.book_words.specs.Malformed.{firstFrom, slotWell, refusal7}
 use Rattle.book.specs.Book.{openSays, askBook, askResult, emptySlot, slotOf, ifDone, newLookup, shares, sharedFrom, touched, strike, struckFrom, noticeSays}
 use Rattle.book.specs.declared.Reply.the-variants.{Refused}
 use Rattle.book_history.specs.History.{Began, Clean, noticedAt, step, run as ran, notice, edit}
@@ -109,7 +110,7 @@ record Computed : Type 0 where
   pub said-alone : record { answer = looked.Is (outcomeOf (blockAt alone 0)); list = listOf (blockAt alone 0) } ≡ says (Bypass 0x2f00)
 
 computed : Computed
-unfolding askBook refusal7 narrowFrom wellFrom slotWell firstFrom registersOf openedWith blockAt tab copied packed unpacked laidOut wordsOf outcomeOf listOf stands refusal1 refusal2 refusal3 properOutcome properPieces piecesOf sizeOf oasSize shares sharedFrom touched strike struckFrom noticeSays askResult says-188 says-768 held1 held2 gap alone
+unfolding askBook refusal7 allFrom slotWell firstFrom registersOf openedWith blockAt valuesFrom copied packed unpacked laidOut wordsOf outcomeOf listOf stands refusal1 refusal2 refusal3 properOutcome properPieces piecesOf sizeOf oasSize shares sharedFrom touched strike struckFrom noticeSays askResult says-188 says-768 held1 held2 gap alone
 computed =
     record {
       plain1 = refl;
@@ -276,11 +277,11 @@ sampled : List ℕ
 sampled = askBook alone 0 0x10000 (of 260 Without) says-260
 
 plain-alone : registersOf alone ≡ plain
-unfolding askBook refusal7 narrowFrom wellFrom slotWell firstFrom registersOf openedWith blockAt tab copied packed unpacked laidOut wordsOf outcomeOf listOf stands refusal1 refusal2 refusal3 properOutcome listedEvent properPieces piecesOf sizeOf oasSize alone
+unfolding askBook refusal7 allFrom slotWell firstFrom registersOf openedWith blockAt valuesFrom copied packed unpacked laidOut wordsOf outcomeOf listOf stands refusal1 refusal2 refusal3 properOutcome listedEvent properPieces piecesOf sizeOf oasSize alone
 plain-alone = refl
 
 sample-text : reportText sampled ≡ bytes "slot\tstream\tsubstream\toutcome\tevent\n0\t00000100\t-\tbypass\t-\n1\t00000104\t-\tabort\t02\n"
-unfolding askBook refusal7 narrowFrom wellFrom slotWell firstFrom registersOf openedWith blockAt tab copied packed unpacked laidOut wordsOf outcomeOf listOf stands refusal1 refusal2 refusal3 properOutcome listedEvent properPieces piecesOf sizeOf oasSize says-260 alone sampled reportText linesFrom lineAt lineFor lineText cellsFrom columnsOf endingOf cellText headerText keptText streamText substreamText outcomeText abortText eventText decimalText digits recorded
+unfolding askBook refusal7 allFrom slotWell firstFrom registersOf openedWith blockAt valuesFrom copied packed unpacked laidOut wordsOf outcomeOf listOf stands refusal1 refusal2 refusal3 properOutcome listedEvent properPieces piecesOf sizeOf oasSize says-260 alone sampled reportText linesFrom lineAt lineFor lineText cellsFrom columnsOf endingOf cellText headerText keptText streamText substreamText outcomeText abortText eventText decimalText digits recorded
 sample-text = refl
 
 pub sample-report : SampleReport

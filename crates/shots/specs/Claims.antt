@@ -10,7 +10,7 @@ use mathlib.Core.List.{List, [], _∷_}
 use Rattle.ids.specs.Ids.{refusal3}
 use Rattle.registers.specs.Sizes.{refusal1}
 use Rattle.lookup.specs.Lookup.{answered, lookedUp}
-use Rattle.book_words.specs.Layout.{tab}
+use Rattle.placed.specs.From.{tab}
 use Rattle.book.specs.Book.{shares}
 use Rattle.shots.specs.Shots.{Shot, shots, piece, byteOf, given, expected}
 

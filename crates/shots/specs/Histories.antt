@@ -17,7 +17,8 @@ use Rattle.answers.specs.declared.Outcome.{Outcome}
 use Rattle.answers.specs.declared.Outcome.the-variants.{Bypass, Quiet}
 use Rattle.lookup.specs.Lookup.{answered, lookedUp}
 use Rattle.lookup.specs.declared.Looked.{Looked}
-use Rattle.book_words.specs.Layout.{tab, keyAt, keyOf, openedWith}
+use Rattle.placed.specs.From.{tab}
+use Rattle.book_words.specs.Layout.{keyAt, keyOf, openedWith}
 use Rattle.book.specs.Book.{askBook, emptySlot}
 use Rattle.book_history.specs.History.{State, Step, edit, notice, ask, step, run}
 use Rattle.book_history.specs.Claims.{askedAfter, lookedIn}

@@ -4,13 +4,14 @@ use borrow.Author.Needs.{needs}
 use native.Mathlib.Omega.{arith}
 use Prim.Native.Nat.{_-_, _≤_}
 use Rattle.placed.specs.Placed.{Left}
+use Rattle.book_words.specs.Layout.{slotsMost}
 use Rattle.report.specs.Report.{linesFrom}
 use Rattle.report.proofs.PutLaws.{lines-start, line-room, line-more, lines-put}
 use Rattle.report.proofs.put_lines.Statement.{statement}
 use Rattle.report.proofs.put_lines.Tie as tie
 
 abbrev Inv-loop : tie.InvT-loop
-Inv-loop book out₀ at slots to₀ i₀ out to i = (i ≤ slots) × (slots ≤ 64) × Left out₀ at (linesFrom book slots 0) out to (linesFrom book (slots - i) i)
+Inv-loop book out₀ at slots to₀ i₀ out to i = (i ≤ slots) × (slots ≤ slotsMost) × Left out₀ at (linesFrom book slots 0) out to (linesFrom book (slots - i) i)
 
 abbrev μ-loop : tie.MeasureT-loop
 μ-loop book out₀ at slots to₀ i₀ out to i = slots - i

@@ -5,13 +5,16 @@ use native.Mathlib.Omega.{arith}
 use Prim.Native.Nat.{_+_, _*_, _-_, _≤_}
 use mathlib.Core.Path.{_≡_}
 use lib.ListN.{length}
+use Rattle.book_words.specs.Layout.{slotsMost}
+use Rattle.report_cells.specs.Text.{cellMost}
+use Rattle.report_cells.specs.Cells.{columns}
 use Rattle.report.specs.Report.{linesFrom, reportText}
 use Rattle.report.proofs.ScanLaws.{text-counted, lines-summed, lines-done}
 use Rattle.report.proofs.text_length.Statement.{statement}
 use Rattle.report.proofs.text_length.Tie as tie
 
 abbrev Inv-loop : tie.InvT-loop
-Inv-loop book slots sum₀ i₀ sum i = (i ≤ slots) × (slots ≤ 64) × (sum + length (linesFrom book (slots - i) i) ≡ length (reportText book)) × (sum ≤ 55 * (i + 1))
+Inv-loop book slots sum₀ i₀ sum i = (i ≤ slots) × (slots ≤ slotsMost) × (sum + length (linesFrom book (slots - i) i) ≡ length (reportText book)) × (sum ≤ columns * (cellMost + 1) * (i + 1))
 
 abbrev μ-loop : tie.MeasureT-loop
 μ-loop book slots sum₀ i₀ sum i = slots - i

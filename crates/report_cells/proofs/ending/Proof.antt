@@ -12,4 +12,4 @@ returns-2 : tie.Need-returns-2
 returns-2 c = search (needs, ends-cell)
 
 pub ending-spec : {M : Type 1} → statement M
-ending-spec = tie.close (tie.spec returns returns-2)
+ending-spec = tie.close (tie.spec (λ c. search needs) returns returns-2)

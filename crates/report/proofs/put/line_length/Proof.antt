@@ -5,13 +5,14 @@ use native.Mathlib.Omega.{arith}
 use Prim.Native.Nat.{_+_, _*_, _-_, _≤_}
 use mathlib.Core.Path.{_≡_}
 use lib.ListN.{length}
-use Rattle.report_cells.specs.Cells.{cellsFrom, lineText}
+use Rattle.report_cells.specs.Text.{cellMost}
+use Rattle.report_cells.specs.Cells.{columns, cellsFrom, lineText}
 use Rattle.report.proofs.ScanLaws.{cells-done, cells-summed, few-more, columns-few, line-counted}
 use Rattle.report.proofs.put.line_length.Statement.{statement}
 use Rattle.report.proofs.put.line_length.Tie as tie
 
 abbrev Inv-loop : tie.InvT-loop
-Inv-loop line n sum₀ column₀ sum column = (column ≤ n) × (n ≤ 5) × (sum + length (cellsFrom line (n - column) column) ≡ length (lineText line)) × (sum ≤ 11 * column)
+Inv-loop line n sum₀ column₀ sum column = (column ≤ n) × (n ≤ columns) × (sum + length (cellsFrom line (n - column) column) ≡ length (lineText line)) × (sum ≤ (cellMost + 1) * column)
 
 abbrev μ-loop : tie.MeasureT-loop
 μ-loop line n sum₀ column₀ sum column = n - column

@@ -1,13 +1,16 @@
 -- How long a report can be.
---     report-short     a header of 36 bytes, and at most 32 for each slot
+--     report-short     the header, and at most lineMost bytes for each slot
 -- Assumes: nothing.
-use Prim.Native.Nat.{ℕ, zero, suc, _+_, _-_, _*_, _≤_}
+use Prim.Native.Nat.{ℕ, zero, suc, _+_, _-_, _*_, _≤_, _<_}
 use native.Mathlib.Omega.{arith}
 use mathlib.Core.Path.{_≡_, refl}
 use mathlib.Core.Bool.{Bool, true, false}
 use mathlib.Core.List.{List, [], _∷_, _++_}
-use lib.Dec.{eqb, ltb}
+use borrow.Author.Tests.{leb-true}
+use lib.Dec.{eqb, leb, ltb}
 use lib.ListN.{length, length-append}
+use Rattle.placed.specs.From.{allFrom}
+use Rattle.placed.proofs.FromLaws.{all-each}
 use Rattle.bit_fields.specs.Choice.{if_then_else_}
 use Rattle.ids.specs.Packing.{unpacked}
 use Rattle.ids.specs.declared.Substream.{Substream}
@@ -25,9 +28,11 @@ use Rattle.answers.specs.declared.Outcome.the-variants.{
   Quiet,
   Unserved,
 }
-use Rattle.book_words.specs.Layout.{slotsOf, keyAt}
-use Rattle.report_cells.specs.Text.{bytes, digits, decimalText}
+use Rattle.book_words.specs.Layout.{slotsMost, slotsOf, keyAt}
+use Rattle.report_cells.specs.Text.{bytes, digits, decimalText, slotText}
 use Rattle.report_cells.specs.Cells.{
+  substreamDigits,
+  eventDigits,
   headerText,
   streamText,
   substreamIn,
@@ -45,28 +50,37 @@ use Rattle.report_cells.specs.Cells.{
 use Rattle.report_cells.specs.declared.Entry.{Entry}
 use Rattle.report_cells.specs.declared.Line.{Line}
 use Rattle.report_cells.specs.declared.Line.the-variants as line
+use Rattle.report.specs.Length.{slotDigits, outcomeMost, lineMost, reportMost}
 use Rattle.report.specs.Report.{lineFor, lineAt, linesFrom, reportText}
 
 -- the cells
-decimal-short : (n : ℕ) → length (decimalText n) ≤ 2
+slot-fits : ℕ → Bool
+slot-fits i = leb (length (slotText i)) slotDigits
+
+-- a test computed for each slot
+slot-short : (i : ℕ) → i < slotsMost → length (slotText i) ≤ slotDigits
+unfolding slot-fits slotText decimalText digits allFrom
+slot-short i few = leb-true (length (slotText i)) slotDigits (all-each slot-fits slotsMost 0 i refl (omega arith) (omega arith))
+
+decimal-short : (n : ℕ) → length (decimalText n) ≤ eventDigits
 unfolding decimalText digits
 decimal-short n = go (ltb n 10)
   where
-    go : (b : Bool) → length (if b then digits (bytes "0123456789") 10 1 n else digits (bytes "0123456789") 10 2 n) ≤ 2
+    go : (b : Bool) → length (if b then digits (bytes "0123456789") 10 1 n else digits (bytes "0123456789") 10 2 n) ≤ eventDigits
     go true = omega arith
     go false = omega arith
 
-substream-short : (s : Substream) → length (substreamIn s) ≤ 5
+substream-short : (s : Substream) → length (substreamIn s) ≤ substreamDigits
 unfolding digits
 substream-short Without = omega arith
 substream-short (With s) = omega arith
 
-abort-short : (b : Bool) → length (abortText b) ≤ 10
+abort-short : (b : Bool) → length (abortText b) ≤ outcomeMost
 unfolding abortText
 abort-short true = omega arith
 abort-short false = omega arith
 
-outcome-short : (r : Registers) (o : Outcome) → length (outcomeText r o) ≤ 10
+outcome-short : (r : Registers) (o : Outcome) → length (outcomeText r o) ≤ outcomeMost
 unfolding outcomeText
 outcome-short r (Translate t) = omega arith
 outcome-short r (Bypass ste) = omega arith
@@ -75,7 +89,7 @@ outcome-short r (Abort event) = abort-short (recorded r event)
 outcome-short r Quiet = omega arith
 outcome-short r (Unserved n) = omega arith
 
-event-short : (o : Outcome) → length (eventText o) ≤ 2
+event-short : (o : Outcome) → length (eventText o) ≤ eventDigits
 unfolding eventText digits
 event-short (Translate t) = omega arith
 event-short (Bypass ste) = omega arith
@@ -89,37 +103,37 @@ cell-long : (t u : List ℕ) (b : ℕ) → length ((t ++ (b ∷ [])) ++ u) ≡ l
 cell-long t u b = rw (length-append, length-append)
 
 -- the lines
-kept-short : (e : Entry) → length (lineText (line.Kept e)) ≤ 32
+kept-short : (e : Entry) → e .slot < slotsMost → length (lineText (line.Kept e)) ≤ lineMost
 unfolding lineText columnsOf cellsFrom cellText keptText streamText substreamText digits
-kept-short e =
-    let slot = decimal-short (e .slot) in
+kept-short e few =
+    let slot = slot-short (e .slot) few in
     let substream = substream-short (e .request .substream) in
     let outcome = outcome-short (e .registers) (e .outcome) in
     let event = event-short (e .outcome) in
     rw (cell-long, cell-long, cell-long, cell-long, cell-long) (omega arith)
 
 -- an empty slot has no line
-nothing-short : length (lineText line.Nothing) ≤ 32
+nothing-short : length (lineText line.Nothing) ≤ lineMost
 unfolding lineText columnsOf cellsFrom
 nothing-short = omega arith
 
-line-short : (ws : List ℕ) (i : ℕ) → length (lineText (lineAt ws i)) ≤ 32
+line-short : (ws : List ℕ) (i : ℕ) → i < slotsMost → length (lineText (lineAt ws i)) ≤ lineMost
 unfolding lineAt lineFor
-line-short ws i = go (eqb (keyAt ws i) 0) (unpacked (keyAt ws i - 1))
+line-short ws i few = go (eqb (keyAt ws i) 0) (unpacked (keyAt ws i - 1))
   where
-    go : (b : Bool) (u : Unpacked) → length (lineText (if b then line.Nothing else lineFor ws i u)) ≤ 32
+    go : (b : Bool) (u : Unpacked) → length (lineText (if b then line.Nothing else lineFor ws i u)) ≤ lineMost
     go true u = nothing-short
-    go false (request.Is asked) = kept-short _
+    go false (request.Is asked) = kept-short _ few
     go false request.Nothing = nothing-short
 
-lines-short : (ws : List ℕ) (m i : ℕ) → length (linesFrom ws m i) ≤ 32 * m
+lines-short : (ws : List ℕ) (m i : ℕ) → i + m ≤ slotsMost → length (linesFrom ws m i) ≤ m * lineMost
 unfolding linesFrom
-lines-short ws zero i = omega arith
-lines-short ws (suc m) i =
-    let one = line-short ws i in
-    let more = lines-short ws m (i + 1) in
+lines-short ws zero i few = omega arith
+lines-short ws (suc m) i few =
+    let one = line-short ws i (omega arith) in
+    let more = lines-short ws m (i + 1) (omega arith) in
     rw length-append (omega arith)
 
-pub report-short : (ws : List ℕ) → slotsOf ws ≤ 64 → length (reportText ws) ≤ 2084
+pub report-short : (ws : List ℕ) → slotsOf ws ≤ slotsMost → length (reportText ws) ≤ reportMost
 unfolding reportText lineText columnsOf cellsFrom cellText headerText
-report-short ws few = let lines = lines-short ws (slotsOf ws) 0 in rw length-append (omega arith)
+report-short ws few = let lines = lines-short ws (slotsOf ws) 0 (omega arith) in rw length-append (omega arith)
