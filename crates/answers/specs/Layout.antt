@@ -1,6 +1,7 @@
 -- An answer's words: how many there are, and where each part stands.
---     valuesMost, piecesMost, answerWords     as many values as the longest outcome has, pieces of a list, words of an answer
---     kindAt .. piecesAt                      the kind, the values, the count of the list, its pieces, address and length each
+--     valuesMost, piecesMost       as many values as the longest outcome has; as many pieces as a list has
+--     listWords, answerWords       the words of a list, and of an answer
+--     kindAt .. piecesAt           the kind, the values, the count of the list, its pieces, address and length each
 -- Ours: all of it.
 -- Assumes: nothing.
 use Prim.Native.Nat.{ℕ, _+_, _*_}
@@ -24,5 +25,9 @@ countAt = valuesAt + valuesMost
 abbrev pub piecesAt : ℕ
 piecesAt = countAt + 1
 
+-- a list's words: its count, and its pieces
+abbrev pub listWords : ℕ
+listWords = 1 + 2 * piecesMost
+
 abbrev pub answerWords : ℕ
-answerWords = piecesAt + 2 * piecesMost
+answerWords = countAt + listWords

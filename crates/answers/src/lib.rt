@@ -80,7 +80,10 @@ pub const COUNT_AT: usize = VALUES_AT + VALUES_MOST;
 
 pub const PIECES_AT: usize = COUNT_AT + 1;
 
-pub const ANSWER_WORDS: usize = PIECES_AT + 2 * PIECES_MOST;
+// The words of a list: its count, and its pieces.
+pub const LIST_WORDS: usize = 1 + 2 * PIECES_MOST;
+
+pub const ANSWER_WORDS: usize = COUNT_AT + LIST_WORDS;
 
 // The descriptors read, in order: the first `count` of the array, and zeros after them.
 pub struct Pieces {
