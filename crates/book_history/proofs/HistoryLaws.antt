@@ -3,13 +3,13 @@
 --     Sound             the whole of it
 --     open-sound, step-sound, run-sound
 -- Assumes: nothing.
-use Prim.Native.Nat.{ℕ, zero, suc, _+_, _-_, _*_, _^_, _≤_, _<_, min, max}
+use Prim.Native.Nat.{ℕ, zero, suc, _+_, _-_, _^_, _≤_, _<_, min, max}
 use native.Mathlib.Omega.{arith}
 use native.Mathlib.Nat.{zero-add}
 use mathlib.Core.Path.{_≡_, refl, sym, ap, _∙_}
 use mathlib.Core.Bool.{Bool, true, false, not, _&&_, _||_}
 use mathlib.Core.List.{List, [], _∷_}
-use borrow.Author.Tests.{le-leb, lt-ltb, ltb-true, ltb-false, eqb-true, eqb-false, ne-eqb, leb-true}
+use borrow.Author.Tests.{ltb-true, ltb-false, eqb-true, eqb-false, ne-eqb, leb-true}
 use lib.Dec.{eqb, leb, ltb}
 use lib.ListN.{length, getD}
 use Rattle.number_laws.proofs.Tests.{not-both}
@@ -30,7 +30,7 @@ use Rattle.answers.specs.Pieces.{nothing, EachPiece}
 use Rattle.answers.specs.declared.Outcome.{Outcome}
 use Rattle.answers.specs.declared.Pieces.{Pieces}
 use Rattle.answers.specs.Proper.{ProperAnswer}
-use Rattle.answer_words.specs.AnswerWords.{wordsOf, outcomeOf, listOf, stands}
+use Rattle.answer_words.specs.AnswerWords.{wordsOf, outcomeOf, listOf}
 use Rattle.answer_words.proofs.AnswerWordsLaws.{words-length, outcome-back, list-back, stands-proper, stands-count}
 use Rattle.lookup.specs.Lookup.{lookedUp}
 use Rattle.lookup.specs.declared.Looked.{Looked}
@@ -45,7 +45,7 @@ use Rattle.book.specs.declared.Said.{Said}
 use Rattle.book.specs.declared.Said.the-variants as said
 use Rattle.book_words.proofs.KeptLaws.{kept-length, kept-before, kept-key, kept-key-other, kept-block, kept-block-other}
 use Rattle.book.proofs.StruckLaws.{struck-length, struck-else, struck-block, struck-left, struck-well}
-use Rattle.book_words.proofs.WellLaws.{held-to, first-low, Well, well-to, well-from}
+use Rattle.book_words.proofs.WellLaws.{held-to, first-low, Well}
 use Rattle.book_words.proofs.KeepsLaws.{registers-same, kept-well, open-well, opened-length, opened-registers, opened-empty}
 
 -- what a slot's block says, as a lookup would

@@ -3,7 +3,7 @@
 --     opened-empty, opened-length, opened-registers, open-well     a book just opened
 --     kept-well         a slot filled
 -- Assumes: nothing.
-use Prim.Native.Nat.{ℕ, _+_, _-_, _*_, _%_, _^_, _≤_, _<_}
+use Prim.Native.Nat.{ℕ, _+_, _-_, _*_, _≤_, _<_}
 use native.Mathlib.Omega.{arith}
 use native.Mathlib.Nat.{mod-eq-of-lt}
 use mathlib.Core.Path.{_≡_, refl, sym, ap, _∙_}
@@ -50,7 +50,7 @@ module _ (ws ws′ : List ℕ) (same : (x : ℕ) → x < keysFrom → getD ws′
   registers-same =
       rw (
         values-same (λ j. lowWord (getD ws′ (registersAt + j) 0)) (λ j. lowWord (getD ws (registersAt + j) 0)) registerWords 0
-        (λ j low high. ap lowWord (same (registersAt + j) (omega arith))),
+            (λ j low high. ap lowWord (same (registersAt + j) (omega arith))),
         same strtabBaseAt (omega arith),
       )
 

@@ -4,7 +4,6 @@ ghost use mathlib.Core.Path.{_≡_};
 ghost use Prim.Native.Nat.{_+_, _≤_, _<_};
 ghost use lib.ListN.{getD, length};
 ghost use Rattle.book_words.specs.Layout.{slotsMost};
-ghost use Rattle.report_cells.specs.Cells.{lineText};
 ghost use Rattle.report.specs.Report.{Put, Reported, lineAt, linesFrom, reportText};
 use book_words::BOOK_WORDS;
 use book_words::KEYS;
