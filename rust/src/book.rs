@@ -12,10 +12,10 @@ use core::borrow::{Borrow, BorrowMut};
 pub const BOOK_WORDS: usize = calls::BOOK_WORDS;
 
 /// How many slots a book has at most.
-pub const SLOTS_MOST: u64 = 64;
+pub const SLOTS_MOST: u64 = calls::SLOTS_MOST as u64;
 
 /// A report has at most so many bytes: a buffer of so many is never refused with [`Refusal::Buffer`].
-pub const REPORT_MOST: usize = 2_084;
+pub const REPORT_MOST: usize = 36 + 32 * calls::SLOTS_MOST;
 
 /// Kept answers. While each edit of the tables has had its notice, what an ask gives is exactly the answer of a new lookup.
 ///

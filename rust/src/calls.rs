@@ -5,7 +5,10 @@ use crate::memory::Memory;
 
 pub const REGISTERS: usize = 7;
 pub const ANSWER_WORDS: usize = 18;
-pub const BOOK_WORDS: usize = 1_227;
+pub const SLOTS_MOST: usize = 64;
+
+/// The number of slots, the registers, STRTAB_BASE, the base and the length; a key and an answer for each slot.
+pub const BOOK_WORDS: usize = 1 + REGISTERS + 3 + SLOTS_MOST * (1 + ANSWER_WORDS);
 
 /// Where no STE is fetched.
 pub const NO_PART: u64 = u64::MAX;

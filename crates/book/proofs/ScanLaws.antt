@@ -57,6 +57,6 @@ module _ (before ws : List ℕ) (start size : ℕ) {i : ℕ} (left : struckFrom 
   all-struck past = sym (left ∙ struck-end ws start size slotsMost i past)
 
   pub more-struck :
-      i < 64 → {next : List ℕ} → next ≡ strike ws start size i
+      i < slotsMost → {next : List ℕ} → next ≡ strike ws start size i
       → struckFrom before start size slotsMost 0 ≡ struckFrom next start size (slotsMost - (i + 1)) (i + 1)
   more-struck more is = left ∙ struck-step ws start size slotsMost i more is

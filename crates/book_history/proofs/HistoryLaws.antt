@@ -373,8 +373,8 @@ open-sound r base s began =
     let parts = accepted-parts r e (began .slots) (began .accepted) in
     record {
       size = rw (began .opened) (opened-length r e (began .slots));
-      well = rw (began .opened) (open-well r e (began .slots) (began .narrow) (parts .0) (parts .1) (parts .2) (parts .3));
-      registers = rw (began .opened) (opened-registers r e (began .slots) (began .narrow));
+      well = rw (began .opened) (open-well r e (began .slots) (began .narrow .each) (parts .0) (parts .1) (parts .2) (parts .3));
+      registers = rw (began .opened) (opened-registers r e (began .slots) (began .narrow .each));
       base-is = rw (began .opened);
       length-is = rw (began .opened);
       fresh = λ i small held clean request is. absurd (held (rw (began .opened) (opened-empty r e (began .slots) i small)));

@@ -1,6 +1,6 @@
 -- Refusal 7, by the tests that the code makes.
 --     slot-empty, slot-past, slot-none, slot-twice, slot-answer     one slot
---     few-slots                  a book that is not refused has at most slotsMost slots
+--     few-slots, slot-below      a book that is not refused has at most slotsMost slots
 --     bad-none, bad-many, bad-word, bad-registers, bad-extent, bad-slots     the row
 -- Assumes: nothing.
 use Prim.Native.Nat.{ℕ, _-_, _≤_, _<_}

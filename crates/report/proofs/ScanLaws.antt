@@ -3,7 +3,7 @@
 --     lines-end, lines-step                      the lines of the slots
 --     cells-summed, cells-done, lines-summed, lines-done     the loops that count bytes
 --     whole-line, line-counted, text-counted     at the start of a loop
---     spelled-length, cells-length, columns-few  how many bytes and cells there are
+--     spelled-length, cells-length, columns-few, few-more  how many bytes and cells there are
 -- Assumes: nothing.
 use Prim.Native.Nat.{ℕ, _+_, _-_, _*_, _≤_, _<_}
 use native.Mathlib.Omega.{arith}

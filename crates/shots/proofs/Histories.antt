@@ -179,7 +179,7 @@ began : Began plain 0 (opened 2)
 unfolding openSays refusal1 refusal2 sizeOf oasSize
 began =
     record {
-      narrow = narrow-all plain refl;
+      narrow = record { each = λ j few. narrow-all plain refl j };
       slots = 2;
       accepted = rw (tab-length 0x10000 (byteOf figure));
       opened = rw (tab-length 0x10000 (byteOf figure));

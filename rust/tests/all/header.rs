@@ -3,19 +3,25 @@
 use llobatelh::*;
 use std::path::Path;
 
-/// The number that the header defines under this name.
+/// The number that the header defines under this name: one by itself, or a sum of products in parentheses.
 fn defined(header: &str, name: &str) -> u64 {
-    let mut lines = header.lines().map(str::split_whitespace);
-    let words = lines.find_map(|mut words| {
-        let is_it = words.next() == Some("#define") && words.next()? == format!("LLOBATELH_{name}");
-        is_it.then(|| words.next()).flatten()
-    });
-    let word = words.unwrap_or_else(|| panic!("the header has no {name}"));
-    match word.strip_prefix("0x") {
-        Some(digits) => u64::from_str_radix(digits, 16),
-        None => word.parse(),
+    let start = format!("#define LLOBATELH_{name} ");
+    let line = header.lines().find_map(|line| line.strip_prefix(&start));
+    let line = line.unwrap_or_else(|| panic!("the header has no {name}"));
+    let said = line.split("/*").next().unwrap().trim();
+    let sum = said.trim_start_matches('(').trim_end_matches(')');
+    let product =
+        |said: &str| -> u64 { said.split(" * ").map(|word| number(header, word)).product() };
+    sum.split(" + ").map(product).sum()
+}
+
+/// A number, or one that the header defines.
+fn number(header: &str, word: &str) -> u64 {
+    match (word.strip_prefix("LLOBATELH_"), word.strip_prefix("0x")) {
+        (Some(name), _) => defined(header, name),
+        (None, Some(digits)) => u64::from_str_radix(digits, 16).unwrap(),
+        (None, None) => word.parse().unwrap_or_else(|_| panic!("{word}")),
     }
-    .unwrap_or_else(|_| panic!("{name}: {word}"))
 }
 
 #[test]
