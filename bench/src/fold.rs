@@ -1,8 +1,14 @@
 //! Every word of an answer, folded into a checksum. Each word is multiplied by a number of its place, so words that are 0 on one side need
 //! not be there on the other, and a word in a wrong place changes the sum.
+//!
+//! The folds of the archive's answers are always inlined: left to the compiler, that hangs on the size of the loops around them. The one of
+//! ordinary answers is left to it, and is the quicker for it.
 
 use crate::ordinary;
-use llobatelh::{Answer, Outcome, Pieces};
+use llobatelh::{header, Answer, Outcome, ANSWER_WORDS};
+
+const COUNT: usize = header::ANSWER_COUNT as usize;
+const PIECES: usize = header::ANSWER_PIECES as usize;
 
 const fn factor(place: usize) -> u64 {
     (place as u64 + 1).wrapping_mul(0x9e37_79b9_7f4a_7c15) | 1
@@ -15,8 +21,9 @@ fn sum(words: impl IntoIterator<Item = u64>, from: usize) -> u64 {
     })
 }
 
-/// The 18 words that the archive puts.
-pub fn words(words: &[u64; 18]) -> u64 {
+/// The words that the archive puts.
+#[inline(always)]
+pub fn words(words: &[u64; ANSWER_WORDS]) -> u64 {
     sum(*words, 0)
 }
 
@@ -24,7 +31,7 @@ pub fn ordinary(answer: &ordinary::Answer) -> u64 {
     let values = match answer.outcome {
         ordinary::Outcome::Translate(t) => sum(
             [
-                1,
+                header::TRANSLATE,
                 t.ste,
                 t.cd,
                 t.asid.into(),
@@ -36,25 +43,29 @@ pub fn ordinary(answer: &ordinary::Answer) -> u64 {
             ],
             0,
         ),
-        ordinary::Outcome::Bypass(ste) => sum([2, ste], 0),
-        ordinary::Outcome::GlobalBypass => sum([3], 0),
-        ordinary::Outcome::Abort(event) => sum([4, event.into()], 0),
-        ordinary::Outcome::Quiet => sum([5], 0),
-        ordinary::Outcome::Unserved(number) => sum([6, number.into()], 0),
+        ordinary::Outcome::Bypass(ste) => sum([header::BYPASS, ste], 0),
+        ordinary::Outcome::GlobalBypass => sum([header::BYPASS_GLOBAL], 0),
+        ordinary::Outcome::Abort(event) => sum([header::ABORT, event.into()], 0),
+        ordinary::Outcome::Quiet => sum([header::QUIET], 0),
+        ordinary::Outcome::Unserved(number) => sum([header::UNSERVED, number.into()], 0),
     };
     let list = &answer.list;
     let pieces = list.pieces.iter().take(list.count);
-    let pieces = sum(pieces.flat_map(|piece| [piece.address, piece.length]), 10);
+    let pieces = sum(
+        pieces.flat_map(|piece| [piece.address, piece.length]),
+        PIECES,
+    );
     values
-        .wrapping_add(sum([list.count as u64], 9))
+        .wrapping_add(sum([list.count as u64], COUNT))
         .wrapping_add(pieces)
 }
 
+#[inline(always)]
 pub fn wrapped(answer: &Answer) -> u64 {
-    let values = match answer.outcome {
+    let values = match answer.outcome() {
         Outcome::Translate(t) => sum(
             [
-                1,
+                header::TRANSLATE,
                 t.ste,
                 t.cd,
                 t.asid.into(),
@@ -66,18 +77,18 @@ pub fn wrapped(answer: &Answer) -> u64 {
             ],
             0,
         ),
-        Outcome::Bypass { ste } => sum([2, ste], 0),
-        Outcome::GlobalBypass => sum([3], 0),
-        Outcome::Abort(event) => sum([4, event.number().into()], 0),
-        Outcome::QuietAbort => sum([5], 0),
-        Outcome::Unserved(case) => sum([6, case.number().into()], 0),
+        Outcome::Bypass { ste } => sum([header::BYPASS, ste], 0),
+        Outcome::GlobalBypass => sum([header::BYPASS_GLOBAL], 0),
+        Outcome::Abort(event) => sum([header::ABORT, event.number().into()], 0),
+        Outcome::QuietAbort => sum([header::QUIET], 0),
+        Outcome::Unserved(case) => sum([header::UNSERVED, case.number().into()], 0),
     };
-    let list: &Pieces = &answer.list;
+    let list = answer.list();
     let pieces = sum(
         list.iter().flat_map(|piece| [piece.address, piece.length]),
-        10,
+        PIECES,
     );
     values
-        .wrapping_add(sum([list.len() as u64], 9))
+        .wrapping_add(sum([list.len() as u64], COUNT))
         .wrapping_add(pieces)
 }

@@ -1,6 +1,7 @@
 //! What is looked up and asked, the same for every side.
 
 use crate::ordinary::{Registers, Request};
+use llobatelh::MEMORY_MOST;
 use oracle::scripts::{Bench, Random};
 
 /// Registers, a memory, and requests.
@@ -17,7 +18,7 @@ const BASE: u64 = 0x8000_0000;
 /// A two-level Stream table (SPLIT 8) and two-level CD tables in a memory of 65,536 bytes at 0x80000000. Streams 0 to 63 translate for
 /// SubstreamIDs 0 to 255; streams 256 to 319 bypass.
 fn tables() -> Input {
-    let mut memory = vec![0; 65_536];
+    let mut memory = vec![0; MEMORY_MOST];
     let mut put = |at: u64, word: u64| {
         memory[at as usize..at as usize + 8].copy_from_slice(&word.to_le_bytes());
     };

@@ -2,12 +2,12 @@
 //!
 //!     bench [ROUNDS]
 
-mod archive;
 mod fold;
 mod inputs;
 mod ordinary;
 mod sides;
 
+use llobatelh::SLOTS_MOST;
 use sides::{lookups, second_program, Books, Side};
 use std::time::{Duration, Instant};
 
@@ -40,14 +40,14 @@ fn main() {
     }
 
     let hits = inputs::distinct(0, 64, 16);
-    kept("ask, kept before, 64 held", rounds, &hits, 64, &hits);
+    kept("ask, kept before, 64 held", rounds, &hits, &hits);
     let few = inputs::distinct(0, 8, 64);
-    kept("ask, kept before, 8 held", rounds, &few, 64, &few);
+    kept("ask, kept before, 8 held", rounds, &few, &few);
     let others = inputs::distinct(1000, 64, 16);
-    kept("ask, not kept, 64 held", rounds, &hits, 64, &others);
+    kept("ask, not kept, 64 held", rounds, &hits, &others);
 
     let new = inputs::distinct(0, 64, 1);
-    let opened = Books::open(&new, 64);
+    let opened = Books::open(&new, SLOTS_MOST);
     let mut scratch = opened.clone();
     let expected = opened.asks_of_new_books(&mut scratch, Side::Ordinary, &new);
     measure(
@@ -60,8 +60,8 @@ fn main() {
 }
 
 /// Asks of a book that holds what `fill` asked for.
-fn kept(name: &str, rounds: usize, fill: &inputs::Input, slots: u64, asked: &inputs::Input) {
-    let mut books = Books::open(fill, slots);
+fn kept(name: &str, rounds: usize, fill: &inputs::Input, asked: &inputs::Input) {
+    let mut books = Books::open(fill, SLOTS_MOST);
     for side in [Side::Archive, Side::Wrapper, Side::Ordinary] {
         books.asks(side, fill);
     }

@@ -1,10 +1,10 @@
 //! The three sides: the archive by its C calls, the archive through rust/, and ordinary Rust. A pass does all lookups or asks of a set
 //! and gives the sum of all that was said and of every word of every answer.
 
-use crate::archive::{self, Handed, BOOK_WORDS};
 use crate::fold;
 use crate::inputs::Input;
 use crate::ordinary::{self, Kept, Request};
+use llobatelh::{calls, header, ANSWER_WORDS, BOOK_WORDS};
 
 #[derive(Clone, Copy, Debug, PartialEq, Eq)]
 pub enum Side {
@@ -42,22 +42,24 @@ pub fn lookups(side: Side, inputs: &[Input]) -> u64 {
     let mut sum = 0u64;
     for input in inputs {
         let (base, memory) = (input.base, input.memory.as_slice());
-        let handed = Handed::new(&input.registers);
+        let bytes = llobatelh::Memory {
+            base,
+            bytes: memory,
+        };
         let registers = wrapped_registers(&input.registers);
+        let handed = *calls::registers(&registers);
         for request in &input.requests {
             let one = match side {
                 Side::Archive => {
-                    let mut words = [0; 18];
-                    match archive::lookup(&handed, base, memory, *request, &mut words) {
-                        0 => fold::words(&words),
+                    let mut words = [0; ANSWER_WORDS];
+                    let request = wrapped_request(*request);
+                    match calls::lookup(&handed, registers.strtab_base, bytes, request, &mut words)
+                    {
+                        header::DONE => fold::words(&words),
                         number => said(number),
                     }
                 }
                 Side::Wrapper => {
-                    let bytes = llobatelh::Memory {
-                        base,
-                        bytes: memory,
-                    };
                     match llobatelh::lookup(&registers, bytes, wrapped_request(*request)) {
                         Ok(answer) => fold::wrapped(&answer),
                         Err(refusal) => said(refusal.number().into()),
@@ -133,35 +135,30 @@ impl Books {
     /// Asks for every request of the input, on one side.
     pub fn asks(&mut self, side: Side, input: &Input) -> u64 {
         let (base, memory) = (input.base, input.memory.as_slice());
+        let bytes = llobatelh::Memory {
+            base,
+            bytes: memory,
+        };
         let mut sum = 0u64;
         for request in &input.requests {
             let one = match side {
                 Side::Archive => {
-                    let mut words = [0; 18];
-                    let kept = archive::ask(&mut self.words, base, memory, *request, &mut words);
+                    let mut words = [0; ANSWER_WORDS];
+                    let request = wrapped_request(*request);
+                    let kept = calls::ask(&mut self.words, bytes, request, &mut words);
                     fold::words(&words).wrapping_add(said(kept))
                 }
-                Side::Wrapper => {
-                    let bytes = llobatelh::Memory {
-                        base,
-                        bytes: memory,
-                    };
-                    match self.wrapped.ask(bytes, wrapped_request(*request)) {
-                        Ok((kept, answer)) => {
-                            fold::wrapped(&answer).wrapping_add(said(match kept {
-                                llobatelh::Kept::Before => 100,
-                                llobatelh::Kept::Newly => 101,
-                                llobatelh::Kept::Not => 102,
-                            }))
-                        }
-                        Err(refusal) => said(refusal.number().into()),
+                Side::Wrapper => match self.wrapped.ask(bytes, wrapped_request(*request)) {
+                    Ok((kept, answer)) => {
+                        fold::wrapped(&answer).wrapping_add(said(kept.number().into()))
                     }
-                }
+                    Err(refusal) => said(refusal.number().into()),
+                },
                 Side::Ordinary => match self.ordinary.ask(base, memory, *request) {
                     Ok((kept, answer)) => fold::ordinary(&answer).wrapping_add(said(match kept {
-                        Kept::Before => 100,
-                        Kept::Newly => 101,
-                        Kept::Not => 102,
+                        Kept::Before => header::KEPT_BEFORE,
+                        Kept::Newly => header::NEWLY_KEPT,
+                        Kept::Not => header::NOT_KEPT,
                     })),
                     Err(number) => said(number.into()),
                 },

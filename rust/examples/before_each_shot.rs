@@ -35,14 +35,14 @@ fn main() -> Result<(), Refusal> {
             bytes: &tables,
         };
         let (kept, answer) = book.ask(memory, Request::without(CARD))?;
-        let fire = matches!(answer.outcome, Outcome::Bypass { .. });
+        let fire = matches!(answer.outcome(), Outcome::Bypass { .. });
         let how = match kept {
             Kept::Before => "kept before",
             Kept::Newly | Kept::Not => "looked up",
         };
         println!(
             "shot {shot}: {how}, {:?}: {}",
-            answer.outcome,
+            answer.outcome(),
             if fire { "fire" } else { "HOLD" }
         );
     }

@@ -1,16 +1,20 @@
 //! What is answered.
 
-use crate::calls::ANSWER_WORDS;
+use crate::calls;
+use crate::header::{self, numbered, of_another_interface};
 use core::fmt;
-use core::ops::Deref;
+use core::hash::{Hash, Hasher};
 
-/// What a stream gets, and which descriptors that was read from.
-#[derive(Clone, Copy, Debug, PartialEq, Eq, Hash)]
+/// How many words an answer has.
+pub const ANSWER_WORDS: usize = header::ANSWER_WORDS as usize;
+
+/// How many descriptors a lookup reads at most.
+pub const PIECES_MOST: usize = header::PIECES_MOST as usize;
+
+/// What a stream gets, and which descriptors that was read from: the words as a call put them. Each is read when it is asked for.
+#[derive(Clone, Copy)]
 pub struct Answer {
-    /// What the stream gets.
-    pub outcome: Outcome,
-    /// The descriptors that were fetched, in order. A fetch that faulted is not among them.
-    pub list: Pieces,
+    words: [u64; ANSWER_WORDS],
 }
 
 /// What a stream gets.
@@ -54,74 +58,35 @@ pub struct Translation {
     pub ttb0: u64,
 }
 
-/// The event of an abort.
-#[derive(Clone, Copy, Debug, PartialEq, Eq, PartialOrd, Ord, Hash)]
-#[repr(u8)]
-#[allow(missing_docs)] // the names are the standard's
-pub enum Event {
-    CBadStreamid = 0x02,
-    FSteFetch = 0x03,
-    CBadSte = 0x04,
-    FStreamDisabled = 0x06,
-    CBadSubstreamid = 0x08,
-    FCdFetch = 0x09,
-    CBadCd = 0x0A,
-}
-
-/// A case that is not worked out.
-#[derive(Clone, Copy, Debug, PartialEq, Eq, PartialOrd, Ord, Hash)]
-#[repr(u8)]
-pub enum Unserved {
-    /// 20: stage 2, Config 11x.
-    Stage2 = 20,
-    /// 21: VMSAv8-32, a CD with AA64 0.
-    Vmsa32 = 21,
-    /// 22: a StreamWorld above EL1, HYP 1 and STRW not 0.
-    StreamWorld = 22,
-}
-
-impl Event {
-    /// All of them, by their numbers.
-    pub const ALL: [Event; 7] = [
-        Event::CBadStreamid,
-        Event::FSteFetch,
-        Event::CBadSte,
-        Event::FStreamDisabled,
-        Event::CBadSubstreamid,
-        Event::FCdFetch,
-        Event::CBadCd,
-    ];
-
-    /// The event's number.
-    pub const fn number(self) -> u8 {
-        self as u8
-    }
-
-    /// The event with this number.
-    pub fn from_number(number: u64) -> Option<Event> {
-        let mut all = Self::ALL.into_iter();
-        all.find(|event| u64::from(event.number()) == number)
+numbered! {
+    /// The event of an abort.
+    #[allow(missing_docs)] // the names are the standard's
+    Event {
+        CBadStreamid = C_BAD_STREAMID,
+        FSteFetch = F_STE_FETCH,
+        CBadSte = C_BAD_STE,
+        FStreamDisabled = F_STREAM_DISABLED,
+        CBadSubstreamid = C_BAD_SUBSTREAMID,
+        FCdFetch = F_CD_FETCH,
+        CBadCd = C_BAD_CD,
     }
 }
 
-impl Unserved {
-    /// All of them, by their numbers.
-    pub const ALL: [Unserved; 3] = [Unserved::Stage2, Unserved::Vmsa32, Unserved::StreamWorld];
-
-    /// The case's number.
-    pub const fn number(self) -> u8 {
-        self as u8
-    }
-
-    /// The case with this number.
-    pub fn from_number(number: u64) -> Option<Unserved> {
-        let mut all = Self::ALL.into_iter();
-        all.find(|case| u64::from(case.number()) == number)
+numbered! {
+    /// A case that is not worked out.
+    Unserved {
+        /// 20: stage 2, Config 11x.
+        Stage2 = STAGE_2,
+        /// 21: VMSAv8-32, a CD with AA64 0.
+        Vmsa32 = VMSA_32,
+        /// 22: a StreamWorld above EL1, HYP 1 and STRW not 0.
+        StreamWorld = STREAM_WORLD,
     }
 }
 
 /// A descriptor that was fetched.
 #[derive(Clone, Copy, Debug, Default, PartialEq, Eq, Hash)]
+#[repr(C)]
 pub struct Piece {
     /// Its address.
     pub address: u64,
@@ -129,86 +94,90 @@ pub struct Piece {
     pub length: u64,
 }
 
-/// At most four pieces, as a slice.
-#[derive(Clone, Copy)]
-pub struct Pieces {
-    count: usize,
-    pieces: [Piece; Pieces::MOST],
-}
-
-impl Pieces {
-    /// How many a list has at most.
-    pub const MOST: usize = 4;
-}
-
-impl Deref for Pieces {
-    type Target = [Piece];
-
-    fn deref(&self) -> &[Piece] {
-        &self.pieces[..self.count]
-    }
-}
-
-impl PartialEq for Pieces {
-    fn eq(&self, other: &Pieces) -> bool {
-        **self == **other
-    }
-}
-
-impl Eq for Pieces {}
-
-impl core::hash::Hash for Pieces {
-    fn hash<H: core::hash::Hasher>(&self, into: &mut H) {
-        (**self).hash(into);
-    }
-}
-
-impl fmt::Debug for Pieces {
-    fn fmt(&self, to: &mut fmt::Formatter) -> fmt::Result {
-        (**self).fmt(to)
-    }
-}
-
-// An answer's words, by their places in include/llobatelh.h.
-const COUNT: usize = 9;
-const PIECES: usize = 10;
-
 impl Answer {
     /// The answer of the words that a call put.
-    pub(crate) fn said(words: &[u64; ANSWER_WORDS]) -> Answer {
-        match (outcome(words), list(words)) {
-            (Some(outcome), Some(list)) => Answer { outcome, list },
-            _ => unreachable!("an archive of another interface: it answers {words:?}"),
+    #[inline]
+    pub(crate) fn said(words: [u64; ANSWER_WORDS]) -> Answer {
+        Answer { words }
+    }
+
+    /// What the stream gets.
+    #[inline(always)] // so that only those words are read that are looked at
+    pub fn outcome(&self) -> Outcome {
+        let word = |place| self.words[place as usize];
+        match word(header::ANSWER_KIND) {
+            header::TRANSLATE => Outcome::Translate(Translation {
+                ste: word(header::ANSWER_STE),
+                cd: word(header::ANSWER_CD),
+                asid: expect(word(header::ANSWER_ASID), |word| word.try_into().ok()),
+                t0sz: expect(word(header::ANSWER_T0SZ), |word| word.try_into().ok()),
+                tg0: expect(word(header::ANSWER_TG0), |word| word.try_into().ok()),
+                epd0: word(header::ANSWER_EPD0) != 0,
+                ips: word(header::ANSWER_IPS),
+                ttb0: word(header::ANSWER_TTB0),
+            }),
+            header::BYPASS => Outcome::Bypass {
+                ste: word(header::ANSWER_STE),
+            },
+            header::BYPASS_GLOBAL => Outcome::GlobalBypass,
+            header::ABORT => Outcome::Abort(expect(word(header::ANSWER_EVENT), Event::from_number)),
+            header::QUIET => Outcome::QuietAbort,
+            header::UNSERVED => {
+                Outcome::Unserved(expect(word(header::ANSWER_CASE), Unserved::from_number))
+            }
+            kind => of_another_interface(kind),
         }
+    }
+
+    /// The descriptors that were fetched, in order. A fetch that faulted is not among them.
+    #[inline(always)]
+    pub fn list(&self) -> &[Piece] {
+        let count = self.words[header::ANSWER_COUNT as usize];
+        expect(count, |count| {
+            calls::pieces(&self.words).get(..count as usize)
+        })
+    }
+
+    /// The words. include/llobatelh.h says what each is.
+    #[inline]
+    pub fn words(&self) -> &[u64; ANSWER_WORDS] {
+        &self.words
+    }
+
+    /// The words that say something. Past the list a book that was put together by hand may have anything.
+    fn telling(&self) -> &[u64] {
+        &self.words[..header::answer_address(self.list().len() as u64) as usize]
     }
 }
 
-fn outcome(words: &[u64; ANSWER_WORDS]) -> Option<Outcome> {
-    Some(match words[0] {
-        1 => Outcome::Translate(Translation {
-            ste: words[1],
-            cd: words[2],
-            asid: words[3].try_into().ok()?,
-            t0sz: words[4].try_into().ok()?,
-            tg0: words[5].try_into().ok()?,
-            epd0: words[6] != 0,
-            ips: words[7],
-            ttb0: words[8],
-        }),
-        2 => Outcome::Bypass { ste: words[1] },
-        3 => Outcome::GlobalBypass,
-        4 => Outcome::Abort(Event::from_number(words[1])?),
-        5 => Outcome::QuietAbort,
-        6 => Outcome::Unserved(Unserved::from_number(words[1])?),
-        _ => return None,
-    })
+/// What a word stands for.
+#[inline]
+fn expect<T>(word: u64, read: impl FnOnce(u64) -> Option<T>) -> T {
+    match read(word) {
+        Some(value) => value,
+        None => of_another_interface(word),
+    }
 }
 
-fn list(words: &[u64; ANSWER_WORDS]) -> Option<Pieces> {
-    let count = usize::try_from(words[COUNT]).ok()?;
-    let pieces = core::array::from_fn(|place| Piece {
-        address: words[PIECES + 2 * place],
-        length: words[PIECES + 2 * place + 1],
-    });
-    (count <= Pieces::MOST).then_some(Pieces { count, pieces })
+impl PartialEq for Answer {
+    fn eq(&self, other: &Answer) -> bool {
+        self.telling() == other.telling()
+    }
+}
+
+impl Eq for Answer {}
+
+impl Hash for Answer {
+    fn hash<H: Hasher>(&self, into: &mut H) {
+        self.telling().hash(into);
+    }
+}
+
+impl fmt::Debug for Answer {
+    fn fmt(&self, to: &mut fmt::Formatter) -> fmt::Result {
+        to.debug_struct("Answer")
+            .field("outcome", &self.outcome())
+            .field("list", &self.list())
+            .finish()
+    }
 }

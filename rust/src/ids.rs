@@ -1,6 +1,5 @@
 //! StreamIDs, SubstreamIDs and requests.
 
-use crate::calls::Numbers;
 use core::fmt;
 
 /// A StreamID: 32 bits. It can't be passed where a [`SubstreamId`] is meant.
@@ -41,6 +40,7 @@ impl StreamId {
     pub const BITS: u32 = 32;
 
     /// The StreamID with this number, which is below 2^32.
+    #[inline]
     pub const fn new(number: u64) -> Result<StreamId, TooLarge> {
         match number >> Self::BITS {
             0 => Ok(StreamId(number as u32)),
@@ -49,12 +49,14 @@ impl StreamId {
     }
 
     /// Its number.
+    #[inline]
     pub const fn number(self) -> u32 {
         self.0
     }
 }
 
 impl From<u32> for StreamId {
+    #[inline]
     fn from(number: u32) -> StreamId {
         StreamId(number)
     }
@@ -65,6 +67,7 @@ impl SubstreamId {
     pub const BITS: u32 = 20;
 
     /// The SubstreamID with this number, which is below 2^20.
+    #[inline]
     pub const fn new(number: u64) -> Result<SubstreamId, TooLarge> {
         match number >> Self::BITS {
             0 => Ok(SubstreamId(number)),
@@ -74,11 +77,13 @@ impl SubstreamId {
 
     /// A SubstreamID as it was handed over, of any number: the calls refuse one of 2^20 or more with
     /// [`Refusal::Substream`](crate::Refusal::Substream), in its place among the other refusals.
+    #[inline]
     pub const fn as_handed(number: u64) -> SubstreamId {
         SubstreamId(number)
     }
 
     /// Its number.
+    #[inline]
     pub const fn number(self) -> u64 {
         self.0
     }
@@ -103,6 +108,7 @@ pub struct Request {
 
 impl Request {
     /// A request without a SubstreamID.
+    #[inline]
     pub const fn without(stream: StreamId) -> Request {
         Request {
             stream,
@@ -111,18 +117,11 @@ impl Request {
     }
 
     /// A request with a SubstreamID.
+    #[inline]
     pub const fn with(stream: StreamId, substream: SubstreamId) -> Request {
         Request {
             stream,
             substream: Some(substream),
-        }
-    }
-
-    pub(crate) fn numbers(self) -> Numbers {
-        Numbers {
-            stream: self.stream.0,
-            given: self.substream.is_some().into(),
-            substream: self.substream.map_or(0, SubstreamId::number),
         }
     }
 }

@@ -19,16 +19,17 @@
 //!     ..Registers::default()
 //! };
 //! let answer = lookup(&registers, memory, Request::without(StreamId::from(5)))?;
-//! assert_eq!(answer.outcome, Outcome::Bypass { ste: 0x4_0140 });
-//! assert_eq!(answer.list[0].address, 0x4_0140);
-//! assert_eq!(answer.list[0].length, 64);
+//! assert_eq!(answer.outcome(), Outcome::Bypass { ste: 0x4_0140 });
+//! assert_eq!(answer.list()[0].address, 0x4_0140);
+//! assert_eq!(answer.list()[0].length, 64);
 //! # Ok::<(), llobatelh::Refusal>(())
 //! ```
 //!
 //! Everything is worked out by an archive whose calls are proved for every number that can be handed in; this crate gives its words their
-//! types. What it adds is not proved: the declarations of the calls (`calls.rs`, the one place with `unsafe`) and the reading of an answer's words.
+//! types. What it adds is not proved: the declarations of the calls ([`calls`], the one place with `unsafe`) and the reading of an answer's words.
 //! The archive is found by `build.rs`: in the folder that the variable `LLOBATELH_ARCHIVE` names, or where the repository's `./archive`
-//! puts the one for the target. The one for Arm is compiled by a step that the toolchain does not answer for.
+//! puts the one for the target. The one for Arm is compiled by a step that the toolchain does not answer for. The numbers are those of
+//! `llobatelh.h` ([`header`]), in the folder that the variable `LLOBATELH_INCLUDE` names, or in the repository's `include`.
 //!
 //! Nothing here asks for memory, and nothing panics with the archive that belongs to this crate.
 #![no_std]
@@ -39,17 +40,19 @@ compile_error!("a length has 64 bits in the archive's calls");
 mod answer;
 mod book;
 #[allow(unsafe_code)]
-mod calls;
+pub mod calls;
+#[allow(unused_parens)] // C's values are written in brackets
+pub mod header;
 mod ids;
 mod lookup;
 mod memory;
 mod refusal;
 mod registers;
 
-pub use answer::{Answer, Event, Outcome, Piece, Pieces, Translation, Unserved};
+pub use answer::{Answer, Event, Outcome, Piece, Translation, Unserved, ANSWER_WORDS, PIECES_MOST};
 pub use book::{Book, Kept, BOOK_WORDS, REPORT_MOST, SLOTS_MOST};
 pub use ids::{Request, StreamId, SubstreamId, TooLarge};
-pub use lookup::{is_recorded, lookup, ste_part};
+pub use lookup::{is_recorded, lookup, ste_part, STE_BYTES};
 pub use memory::{Memory, MEMORY_MOST};
 pub use refusal::Refusal;
-pub use registers::Registers;
+pub use registers::{Registers, REGISTERS};

@@ -1,11 +1,15 @@
 //! The lookup.
 
 use crate::answer::{Answer, Event};
-use crate::calls::{self, ANSWER_WORDS, NO_PART};
+use crate::calls;
+use crate::header;
 use crate::ids::Request;
 use crate::memory::Memory;
 use crate::refusal::Refusal;
 use crate::registers::Registers;
+
+/// How many bytes an STE has.
+pub const STE_BYTES: usize = header::STE_BYTES as usize;
 
 /// A new lookup of a request. Refuses with [`Refusal::Registers`], [`Refusal::Memory`] or [`Refusal::Substream`], in this order.
 ///
@@ -15,22 +19,13 @@ use crate::registers::Registers;
 /// // The SMMU is off, and GBPA.ABORT is 0: every stream bypasses, and nothing is read.
 /// let memory = Memory { base: 0, bytes: &[] };
 /// let answer = lookup(&Registers::default(), memory, Request::without(StreamId::from(0)))?;
-/// assert_eq!(answer.outcome, Outcome::GlobalBypass);
-/// assert!(answer.list.is_empty());
+/// assert_eq!(answer.outcome(), Outcome::GlobalBypass);
+/// assert!(answer.list().is_empty());
 /// # Ok::<(), llobatelh::Refusal>(())
 /// ```
+#[inline]
 pub fn lookup(registers: &Registers, memory: Memory, request: Request) -> Result<Answer, Refusal> {
-    let mut answer = [0; ANSWER_WORDS];
-    match calls::lookup(
-        &registers.words(),
-        registers.strtab_base,
-        memory,
-        request.numbers(),
-        &mut answer,
-    ) {
-        0 => Ok(Answer::said(&answer)),
-        number => Err(Refusal::said(number)),
-    }
+    calls::new_lookup(registers, memory, request)
 }
 
 /// The STE that a request reaches, as that very part of the lent memory, whatever it holds; none where no STE is fetched, or where the
@@ -46,14 +41,15 @@ pub fn lookup(registers: &Registers, memory: Memory, request: Request) -> Result
 /// assert!(core::ptr::eq(part.unwrap(), &bytes));
 /// assert_eq!(ste_part(&registers, memory, Request::without(StreamId::from(1))), None);
 /// ```
+#[inline]
 pub fn ste_part<'a>(
     registers: &Registers,
     memory: Memory<'a>,
     request: Request,
-) -> Option<&'a [u8; 64]> {
-    let words = registers.words();
-    match calls::ste_part(&words, registers.strtab_base, memory, request.numbers()) {
-        NO_PART => None,
+) -> Option<&'a [u8; STE_BYTES]> {
+    let words = calls::registers(registers);
+    match calls::ste_part(words, registers.strtab_base, memory, request) {
+        header::NO_PART => None,
         place => memory.bytes.get(place as usize..)?.first_chunk(),
     }
 }
@@ -69,7 +65,8 @@ pub fn ste_part<'a>(
 /// registers.cr2 = 2;
 /// assert!(is_recorded(&registers, Event::CBadStreamid));
 /// ```
+#[inline]
 pub fn is_recorded(registers: &Registers, event: Event) -> bool {
-    let words = registers.words();
-    calls::is_recorded(&words, registers.strtab_base, event.number().into()) == 1
+    let words = calls::registers(registers);
+    calls::is_recorded(words, registers.strtab_base, event.number().into()) == 1
 }

@@ -1,37 +1,45 @@
 -- An answer's words, and what words stand for.
---     words-length                       there are 18
+--     words-length                       how many there are
 --     outcome-back, list-back            the outcome and the list are read back: nothing is lost
 --     stands-proper                      the words of a proper answer stand
---     outcome-proper, stands-count, listed-end   of words that stand: the outcome is proper, there are at most four pieces, each ends at or below 2^52
---     translate-words .. unserved-words  the words by the outcome's cases
+--     outcome-proper, stands-count, listed-end   of words that stand: the outcome is proper, there are at most as many pieces as a list has, each ends at or below 2^52
 --     of-translate .. of-quiet           the outcome by the words' kind
 --     low-kind, high-kind, outcome-unfit, list-decides    the tests of `stands` in order
+--     put-words                          an outcome put before a list: the words of both
+--     put-translate .. put-unserved      what is put, by the outcome's cases
 -- Assumes: nothing.
-use Prim.Native.Nat.{ℕ, _+_, _-_, _^_, _≤_, _<_}
+use Prim.Native.Nat.{ℕ, zero, suc, _+_, _-_, _*_, _^_, _≤_, _<_}
+use native.Mathlib.Nat.{add-zero}
 use native.Mathlib.Omega.{arith}
-use mathlib.Core.Path.{_≡_, refl, ap}
+use mathlib.Core.Path.{_≡_, refl, sym, ap, _∙_}
 use mathlib.Core.Bool.{Bool, true, false, not}
-use mathlib.Core.List.{List, [], _∷_}
+use mathlib.Core.List.{List, [], _∷_, _++_, append-assoc}
 use borrow.Author.Tests.{eq-eqb, ne-eqb, le-leb, lt-leb, not-true, not-false}
 use lib.Dec.{leb}
-use lib.ListN.{length, getD}
+use lib.ListN.{length, getD, length-append}
+use lib.Seq.{getD-append-add}
 use Rattle.number_laws.proofs.Tests.{both}
+use Rattle.placed.specs.From.{valuesFrom}
+use Rattle.memory_image.specs.Extent.{addressTop}
 use Rattle.memory_image.specs.declared.Piece.{Piece}
-use Rattle.answers.specs.Pieces.{nothing}
+use Rattle.answers.specs.Layout.{valuesMost, piecesMost, answerWords, kindAt, valuesAt, piecesAt}
+use Rattle.answers.specs.Values.{kindOf, kindsMost, valuesOf}
+use Rattle.answers.specs.Pieces.{nothing, onlyList}
 use Rattle.answers.specs.Proper.{properOutcome, properPieces}
 use Rattle.answers.specs.declared.Outcome.{Outcome}
 use Rattle.answers.specs.declared.Outcome.the-variants.{Translate, Bypass, BypassGlobal, Abort, Quiet, Unserved}
 use Rattle.answers.specs.declared.Translation.{Translation}
 use Rattle.answers.specs.declared.Pieces.{Pieces}
+use Rattle.answers.proofs.PiecesLaws.{pieceNumbers, words-numbers}
 use Rattle.answers.proofs.ProperLaws.{few-proper, ends-proper}
-use Rattle.answer_words.specs.AnswerWords.{kindOf, laidOut, wordsOf, translationIn, outcomeOf, listOf, stands}
+use Rattle.answer_words.specs.AnswerWords.{laidOut, wordsOf, translationIn, outcomeOf, piecesIn, listOf, stands, putFrom, outcomePut}
 
-pub words-length : (o : Outcome) (l : Pieces) → length (wordsOf o l) ≡ 18
-unfolding wordsOf laidOut
+pub words-length : (o : Outcome) (l : Pieces) → length (wordsOf o l) ≡ answerWords
+unfolding wordsOf laidOut valuesFrom
 words-length o l = refl
 
 pub outcome-back : (o : Outcome) (l : Pieces) → outcomeOf (wordsOf o l) ≡ o
-unfolding wordsOf laidOut outcomeOf
+unfolding wordsOf laidOut outcomeOf valuesFrom
 outcome-back (Translate t) l = refl
 outcome-back (Bypass ste) l = refl
 outcome-back BypassGlobal l = refl
@@ -39,20 +47,27 @@ outcome-back (Abort event) l = refl
 outcome-back Quiet l = refl
 outcome-back (Unserved n) l = refl
 
--- an array of four pieces is those four
-four :
-    (ps : List Piece) → length ps ≡ 4
-    → getD ps 0 nothing ∷ (getD ps 1 nothing ∷ (getD ps 2 nothing ∷ (getD ps 3 nothing ∷ []))) ≡ ps
-four [] is = absurd (omega arith)
-four (a ∷ []) is = absurd (omega arith)
-four (a ∷ (b ∷ [])) is = absurd (omega arith)
-four (a ∷ (b ∷ (c ∷ []))) is = absurd (omega arith)
-four (a ∷ (b ∷ (c ∷ (d ∷ [])))) is = refl
-four (a ∷ (b ∷ (c ∷ (d ∷ (e ∷ ps))))) is = absurd (omega arith)
+-- the pieces that stand behind a front
+behind : (front : List ℕ) (ps : List Piece) → piecesIn (front ++ pieceNumbers ps) (length ps) (length front) ≡ ps
+behind front [] = refl
+behind front (p ∷ ps) =
+    let here : getD (front ++ (p .address ∷ (p .length ∷ pieceNumbers ps))) (length front) 0 ≡ p .address
+    = rw add-zero at (getD-append-add front (p .address ∷ (p .length ∷ pieceNumbers ps)) 0 0) in
+    let next : getD (front ++ (p .address ∷ (p .length ∷ pieceNumbers ps))) (length front + 1) 0 ≡ p .length
+    = getD-append-add front (p .address ∷ (p .length ∷ pieceNumbers ps)) 1 0 in
+    let longer : front ++ (p .address ∷ (p .length ∷ pieceNumbers ps)) ≡ (front ++ (p .address ∷ (p .length ∷ []))) ++ pieceNumbers ps
+    = sym (append-assoc front (p .address ∷ (p .length ∷ [])) (pieceNumbers ps)) in
+    let on : length front + 2 ≡ length (front ++ (p .address ∷ (p .length ∷ []))) = sym (length-append front (p .address ∷ (p .length ∷ []))) in
+    rw (here, next, longer, on) (ap (λ (rest : List Piece). p ∷ rest) (behind (front ++ (p .address ∷ (p .length ∷ []))) ps))
 
-pub list-back : (o : Outcome) (l : Pieces) → length (l .piece) ≡ 4 → listOf (wordsOf o l) ≡ l
-unfolding wordsOf laidOut listOf
-list-back o l is = ap (λ (ps : List Piece). record { count = l .count; piece = ps }) (four (l .piece) is)
+pub list-back : (o : Outcome) (l : Pieces) → length (l .piece) ≡ piecesMost → listOf (wordsOf o l) ≡ l
+unfolding wordsOf laidOut listOf valuesFrom
+list-back o l is =
+    ap (λ (ps : List Piece). record { count = l .count; piece = ps })
+    (rw (words-numbers (l .piece) is) (rw is at (behind (front o l) (l .piece))))
+  where
+    front : Outcome → Pieces → List ℕ
+    front o l = kindOf o ∷ (valuesFrom (λ j. getD (valuesOf o) j 0) valuesMost 0 ++ (l .count ∷ []))
 
 kind-least : (o : Outcome) → 1 ≤ kindOf o
 kind-least (Translate t) = omega arith
@@ -62,7 +77,7 @@ kind-least (Abort event) = omega arith
 kind-least Quiet = omega arith
 kind-least (Unserved n) = omega arith
 
-kind-most : (o : Outcome) → kindOf o ≤ 6
+kind-most : (o : Outcome) → kindOf o ≤ kindsMost
 kind-most (Translate t) = omega arith
 kind-most (Bypass ste) = omega arith
 kind-most BypassGlobal = omega arith
@@ -70,12 +85,12 @@ kind-most (Abort event) = omega arith
 kind-most Quiet = omega arith
 kind-most (Unserved n) = omega arith
 
-kind-back : (o : Outcome) (l : Pieces) → getD (wordsOf o l) 0 0 ≡ kindOf o
+kind-back : (o : Outcome) (l : Pieces) → getD (wordsOf o l) kindAt 0 ≡ kindOf o
 unfolding wordsOf laidOut
 kind-back o l = refl
 
 pub stands-proper :
-    (o : Outcome) (l : Pieces) → length (l .piece) ≡ 4 → properOutcome o ≡ true → properPieces l ≡ true → stands (wordsOf o l) ≡ true
+    (o : Outcome) (l : Pieces) → length (l .piece) ≡ piecesMost → properOutcome o ≡ true → properPieces l ≡ true → stands (wordsOf o l) ≡ true
 unfolding stands
 stands-proper o l is outcome list =
     simp (
@@ -93,97 +108,65 @@ module _ (ws : List ℕ) (stand : stands ws ≡ true) where
   parts : (properOutcome (outcomeOf ws) ≡ true) × (properPieces (listOf ws) ≡ true)
   unfolding stands
   parts =
-      let after-least = both (leb 1 (getD ws 0 0)) _ stand in
-      let after-most = both (leb (getD ws 0 0) 6) _ (after-least .1) in
+      let after-least = both (leb 1 (getD ws kindAt 0)) _ stand in
+      let after-most = both (leb (getD ws kindAt 0) kindsMost) _ (after-least .1) in
       both (properOutcome (outcomeOf ws)) (properPieces (listOf ws)) (after-most .1)
 
   pub outcome-proper : properOutcome (outcomeOf ws) ≡ true
   outcome-proper = parts .0
 
-  pub stands-count : listOf ws .count ≤ 4
+  pub stands-count : listOf ws .count ≤ piecesMost
   stands-count = few-proper (listOf ws) (parts .1)
 
   pub listed-end :
       (i : ℕ) → i < listOf ws .count
-      → getD (listOf ws .piece) i nothing .address + getD (listOf ws .piece) i nothing .length ≤ 2 ^ 52
+      → getD (listOf ws .piece) i nothing .address + getD (listOf ws .piece) i nothing .length ≤ addressTop
   listed-end = ends-proper (listOf ws) (parts .1)
-
--- the words, by the outcome's cases; one value, and zeros after it
-abbrev alone : ℕ → List ℕ
-alone value = value ∷ (0 ∷ (0 ∷ (0 ∷ (0 ∷ (0 ∷ (0 ∷ (0 ∷ [])))))))
-
-module _ (o : Outcome) (l : Pieces) {r : List ℕ} where
-  pub translate-words :
-      {t : Translation} → o ≡ Translate t
-      → r ≡ laidOut 1 (t .ste ∷ (t .cd ∷ (t .asid ∷ (t .t0sz ∷ (t .tg0 ∷ (t .epd0 ∷ (t .ips ∷ (t .ttb0 ∷ [])))))))) l
-      → r ≡ wordsOf o l
-  unfolding wordsOf
-  translate-words is laid = rw (is, laid)
-
-  pub bypass-words : {ste : ℕ} → o ≡ Bypass ste → r ≡ laidOut 2 (alone ste) l → r ≡ wordsOf o l
-  unfolding wordsOf laidOut
-  bypass-words is laid = rw (is, laid)
-
-  pub global-words : o ≡ BypassGlobal → r ≡ laidOut 3 (alone 0) l → r ≡ wordsOf o l
-  unfolding wordsOf laidOut
-  global-words is laid = rw (is, laid)
-
-  pub abort-words : {event : ℕ} → o ≡ Abort event → r ≡ laidOut 4 (alone event) l → r ≡ wordsOf o l
-  unfolding wordsOf laidOut
-  abort-words is laid = rw (is, laid)
-
-  pub quiet-words : o ≡ Quiet → r ≡ laidOut 5 (alone 0) l → r ≡ wordsOf o l
-  unfolding wordsOf laidOut
-  quiet-words is laid = rw (is, laid)
-
-  pub unserved-words : {n : ℕ} → o ≡ Unserved n → r ≡ laidOut 6 (alone n) l → r ≡ wordsOf o l
-  unfolding wordsOf laidOut
-  unserved-words is laid = rw (is, laid)
 
 -- the outcome, by the words' kind
 module _ (ws : List ℕ) where
-  pub of-translate : getD ws 0 0 ≡ 1 → {t : Translation} → t ≡ translationIn ws → Translate t ≡ outcomeOf ws
+  pub of-translate : getD ws kindAt 0 ≡ 1 → {t : Translation} → t ≡ translationIn ws → Translate t ≡ outcomeOf ws
   unfolding outcomeOf
   of-translate is read = rw read (simp (eq-eqb _ _ is))
 
-  module _ (not-one : getD ws 0 0 ≡ 1 → ⊥) where
-    pub of-bypass : getD ws 0 0 ≡ 2 → Bypass (getD ws 1 0) ≡ outcomeOf ws
+  module _ (not-one : getD ws kindAt 0 ≡ 1 → ⊥) where
+    pub of-bypass : getD ws kindAt 0 ≡ 2 → Bypass (getD ws valuesAt 0) ≡ outcomeOf ws
     unfolding outcomeOf
     of-bypass is = simp (ne-eqb _ _ not-one, eq-eqb _ _ is)
 
-    module _ (not-two : getD ws 0 0 ≡ 2 → ⊥) where
-      pub of-global : getD ws 0 0 ≡ 3 → BypassGlobal ≡ outcomeOf ws
+    module _ (not-two : getD ws kindAt 0 ≡ 2 → ⊥) where
+      pub of-global : getD ws kindAt 0 ≡ 3 → BypassGlobal ≡ outcomeOf ws
       unfolding outcomeOf
       of-global is = simp (ne-eqb _ _ not-one, ne-eqb _ _ not-two, eq-eqb _ _ is)
 
-      module _ (not-three : getD ws 0 0 ≡ 3 → ⊥) where
-        pub of-abort : getD ws 0 0 ≡ 4 → Abort (getD ws 1 0) ≡ outcomeOf ws
+      module _ (not-three : getD ws kindAt 0 ≡ 3 → ⊥) where
+        pub of-abort : getD ws kindAt 0 ≡ 4 → Abort (getD ws valuesAt 0) ≡ outcomeOf ws
         unfolding outcomeOf
         of-abort is = simp (ne-eqb _ _ not-one, ne-eqb _ _ not-two, ne-eqb _ _ not-three, eq-eqb _ _ is)
 
-        module _ (not-four : getD ws 0 0 ≡ 4 → ⊥) where
-          pub of-unserved : getD ws 0 0 ≡ 6 → Unserved (getD ws 1 0) ≡ outcomeOf ws
+        module _ (not-four : getD ws kindAt 0 ≡ 4 → ⊥) where
+          pub of-unserved : getD ws kindAt 0 ≡ 6 → Unserved (getD ws valuesAt 0) ≡ outcomeOf ws
           unfolding outcomeOf
           of-unserved is =
               simp (ne-eqb _ _ not-one, ne-eqb _ _ not-two, ne-eqb _ _ not-three, ne-eqb _ _ not-four, eq-eqb _ _ is)
 
-          pub of-quiet : (getD ws 0 0 ≡ 6 → ⊥) → Quiet ≡ outcomeOf ws
+          pub of-quiet : (getD ws kindAt 0 ≡ 6 → ⊥) → Quiet ≡ outcomeOf ws
           unfolding outcomeOf
           of-quiet not-six =
               simp (ne-eqb _ _ not-one, ne-eqb _ _ not-two, ne-eqb _ _ not-three, ne-eqb _ _ not-four, ne-eqb _ _ not-six)
 
 -- the tests of `stands`, in order
 module _ (ws : List ℕ) where
-  pub low-kind : getD ws 0 0 < 1 → false ≡ stands ws
+  pub low-kind : getD ws kindAt 0 < 1 → false ≡ stands ws
   unfolding stands
   low-kind low = simp (lt-leb _ _ low)
 
-  module _ (least : 1 ≤ getD ws 0 0) where
-    pub high-kind : 6 < getD ws 0 0 → false ≡ stands ws
+  module _ (least : 1 ≤ getD ws kindAt 0) where
+    pub high-kind : kindsMost < getD ws kindAt 0 → false ≡ stands ws
     unfolding stands
     high-kind high = simp (le-leb _ _ least, lt-leb _ _ high)
 
-    module _ (most : getD ws 0 0 ≤ 6) {outcome : Outcome} (read : outcome ≡ outcomeOf ws) {fits : Bool} (test : fits ≡ properOutcome outcome) where
+    module _ (most : getD ws kindAt 0 ≤ kindsMost) {outcome : Outcome} (read : outcome ≡ outcomeOf ws) {fits : Bool} (test : fits ≡ properOutcome outcome) where
       pub outcome-unfit : not fits ≡ true → false ≡ stands ws
       unfolding stands
       outcome-unfit bad = simp (le-leb _ _ least, le-leb _ _ most, ← read, ← test, not-true fits bad)
@@ -193,3 +176,36 @@ module _ (ws : List ℕ) where
       unfolding stands
       list-decides good listed tested =
           rw tested (simp (le-leb _ _ least, le-leb _ _ most, ← read, ← test, not-false fits good, ← listed))
+
+-- an outcome put before a list
+pub put-words : (l : Pieces) (o : Outcome) → outcomePut (onlyList l) o ≡ wordsOf o l
+unfolding outcomePut onlyList wordsOf laidOut valuesFrom
+put-words l (Translate t) = refl
+put-words l (Bypass ste) = refl
+put-words l BypassGlobal = refl
+put-words l (Abort event) = refl
+put-words l Quiet = refl
+put-words l (Unserved n) = refl
+
+module _ (ws : List ℕ) {o : Outcome} {after : List ℕ} where
+  put-is : {other : Outcome} → o ≡ other → after ≡ putFrom ws (kindOf other ∷ valuesOf other) kindAt → after ≡ outcomePut ws o
+  unfolding outcomePut
+  put-is is put = rw is put
+
+  pub put-translate : {t : Translation} → o ≡ Translate t → after ≡ putFrom ws (1 ∷ valuesOf (Translate t)) kindAt → after ≡ outcomePut ws o
+  put-translate is put = put-is is put
+
+  pub put-bypass : {ste : ℕ} → o ≡ Bypass ste → after ≡ putFrom ws (2 ∷ (ste ∷ [])) kindAt → after ≡ outcomePut ws o
+  put-bypass is put = put-is is put
+
+  pub put-global : o ≡ BypassGlobal → after ≡ putFrom ws (3 ∷ []) kindAt → after ≡ outcomePut ws o
+  put-global is put = put-is is put
+
+  pub put-abort : {event : ℕ} → o ≡ Abort event → after ≡ putFrom ws (4 ∷ (event ∷ [])) kindAt → after ≡ outcomePut ws o
+  put-abort is put = put-is is put
+
+  pub put-quiet : o ≡ Quiet → after ≡ putFrom ws (5 ∷ []) kindAt → after ≡ outcomePut ws o
+  put-quiet is put = put-is is put
+
+  pub put-unserved : {n : ℕ} → o ≡ Unserved n → after ≡ putFrom ws (6 ∷ (n ∷ [])) kindAt → after ≡ outcomePut ws o
+  put-unserved is put = put-is is put

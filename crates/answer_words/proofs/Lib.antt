@@ -1,4 +1,5 @@
 -- Laws of specs/, for this crate and those above it.
 pub mod ProperTests
 pub mod AnswerWordsLaws
+pub mod ListLaws
 pub mod Claims

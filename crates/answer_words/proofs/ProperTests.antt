@@ -15,12 +15,18 @@ use borrow.Author.Tests.{ne-eqb, lt-ltb, le-ltb, le-leb, lt-leb, leb-true, leb-f
 use lib.Dec.{leb, ltb}
 use lib.ListN.{getD}
 use Rattle.memory_image.specs.declared.Piece.{Piece}
+use Rattle.memory_image.specs.Extent.{addressTop}
+use Rattle.answers.specs.Layout.{piecesMost}
 use Rattle.answers.specs.Pieces.{nothing}
 use Rattle.answers.specs.Proper.{properFields, listedEvent, listedCase, properOutcome, endsBelow, endBelowFrom, properPieces}
 use Rattle.answers.specs.declared.Outcome.{Outcome}
 use Rattle.answers.specs.declared.Outcome.the-variants.{Translate, Bypass, BypassGlobal, Abort, Quiet, Unserved}
 use Rattle.answers.specs.declared.Translation.{Translation}
 use Rattle.answers.specs.declared.Pieces.{Pieces}
+
+and-true : (b : Bool) → b ≡ (b && true)
+and-true true = refl
+and-true false = refl
 
 module _ (t : Translation) where
   pub asid-wide : 2 ^ 16 ≤ t .asid → false ≡ properFields t
@@ -39,7 +45,7 @@ module _ (t : Translation) where
 
       pub widths-last : t .tg0 < 2 ^ 2 → ltb (t .epd0) 2 ≡ properFields t
       unfolding properFields
-      widths-last tg0 = simp (lt-ltb _ _ asid, lt-ltb _ _ t0sz, lt-ltb _ _ tg0)
+      widths-last tg0 = simp (lt-ltb _ _ asid, lt-ltb _ _ t0sz, lt-ltb _ _ tg0) (and-true (ltb (t .epd0) 2))
 
 pub event-is : (k : ℕ) → listedEvent k ≡ true → (event : ℕ) → event ≡ k → true ≡ listedEvent event
 event-is k listed event is = sym (ap listedEvent is ∙ listed)
@@ -86,15 +92,15 @@ module _ (outcome : Outcome) where
   unserved-tested is tested = rw (is, tested)
 
 module _ (address length : ℕ) where
-  pub address-past : 2 ^ 52 < address → false ≡ leb (address + length) (2 ^ 52)
-  address-past past = sym (lt-leb (address + length) (2 ^ 52) (omega arith))
+  pub address-past : addressTop < address → false ≡ leb (address + length) (addressTop)
+  address-past past = sym (lt-leb (address + length) (addressTop) (omega arith))
 
-  pub length-last : address ≤ 2 ^ 52 → leb length (2 ^ 52 - address) ≡ leb (address + length) (2 ^ 52)
-  length-last fits = go (leb length (2 ^ 52 - address)) refl
+  pub length-last : address ≤ addressTop → leb length (addressTop - address) ≡ leb (address + length) (addressTop)
+  length-last fits = go (leb length (addressTop - address)) refl
     where
-      go : (b : Bool) → leb length (2 ^ 52 - address) ≡ b → b ≡ leb (address + length) (2 ^ 52)
-      go true is = let short = leb-true length (2 ^ 52 - address) is in sym (le-leb (address + length) (2 ^ 52) (omega arith))
-      go false is = let long = leb-false length (2 ^ 52 - address) is in sym (lt-leb (address + length) (2 ^ 52) (omega arith))
+      go : (b : Bool) → leb length (addressTop - address) ≡ b → b ≡ leb (address + length) (addressTop)
+      go true is = let short = leb-true length (addressTop - address) is in sym (le-leb (address + length) (addressTop) (omega arith))
+      go false is = let long = leb-false length (addressTop - address) is in sym (lt-leb (address + length) (addressTop) (omega arith))
 
 -- the loop over the pieces: what is left says what the whole says
 pub record Left (pieces : List Piece) (n i : ℕ) : Type 0 where
@@ -119,10 +125,10 @@ module _ (pieces : List Piece) (n : ℕ) where
   left-none {i} left end = let fuel : n - i ≡ 0 = omega arith in left .same ∙ rw fuel
 
 module _ (l : Pieces) where
-  pub list-long : 4 < l .count → false ≡ properPieces l
+  pub list-long : piecesMost < l .count → false ≡ properPieces l
   unfolding properPieces
   list-long many = simp (lt-leb _ _ many)
 
-  pub list-is : l .count ≤ 4 → {test : Bool} → endBelowFrom (l .piece) (l .count) 0 ≡ test → test ≡ properPieces l
+  pub list-is : l .count ≤ piecesMost → {test : Bool} → endBelowFrom (l .piece) (l .count) 0 ≡ test → test ≡ properPieces l
   unfolding properPieces
   list-is few is = simp (le-leb _ _ few) (sym is)

@@ -1,76 +1,30 @@
 -- An answer as words, and back: how a book keeps it (01, "What an answer holds").
---     wordsOf              the 18 words of an outcome and a list: start here
+--     wordsOf              the words of an outcome and a list: start here
 --     outcomeOf, listOf    the outcome and the list that words stand for
 --     stands               whether words stand for an answer
---     kindAt .. piecesAt   the words by their places: [0] the kind, [1..8] the values, [9] the count, [10..17] the pieces
+--     outcomePut           words with an outcome put before the list that they hold
 -- Ours: all of it; a kind that is none reads as a quiet abort, and does not stand.
 -- Assumes: nothing.
 use Prim.Native.Nat.{ℕ, zero, suc, _+_}
 use mathlib.Core.Bool.{Bool, _&&_}
 use mathlib.Core.List.{List, [], _∷_, _++_}
 use lib.Dec.{eqb, leb}
-use lib.ListN.{getD}
+use lib.ListN.{getD, set}
+use Rattle.placed.specs.From.{from}
 use Rattle.bit_fields.specs.Choice.{if_then_else_}
 use Rattle.memory_image.specs.declared.Piece.{Piece}
-use Rattle.answers.specs.Pieces.{piecesMost, nothing}
+use Rattle.answers.specs.Layout.{valuesMost, piecesMost, kindAt, valuesAt, countAt, piecesAt}
+use Rattle.answers.specs.Values.{kindOf, kindsMost, valuesOf}
+use Rattle.answers.specs.Pieces.{pieceWords}
 use Rattle.answers.specs.Proper.{properOutcome, properPieces}
 use Rattle.answers.specs.declared.Outcome.{Outcome}
 use Rattle.answers.specs.declared.Outcome.the-variants.{Translate, Bypass, BypassGlobal, Abort, Quiet, Unserved}
 use Rattle.answers.specs.declared.Translation.{Translation}
 use Rattle.answers.specs.declared.Pieces.{Pieces}
 
--- how many words an answer has
-abbrev pub answerWords : ℕ
-answerWords = 18
-
-abbrev pub kindAt : ℕ
-kindAt = 0
-
-abbrev pub valuesAt : ℕ
-valuesAt = 1
-
--- as many values as the longest outcome has
-abbrev pub valuesMost : ℕ
-valuesMost = 8
-
-abbrev pub countAt : ℕ
-countAt = 9
-
-abbrev pub piecesAt : ℕ
-piecesAt = 10
-
--- the kinds: 1 translate, 2 bypass, 3 global bypass, 4 abort, 5 quiet, 6 unserved
-abbrev pub kindOf : Outcome → ℕ
-kindOf (Translate t) = 1
-kindOf (Bypass ste) = 2
-kindOf BypassGlobal = 3
-kindOf (Abort event) = 4
-kindOf Quiet = 5
-kindOf (Unserved n) = 6
-
--- the values that an outcome holds; zeros follow them
-abbrev pub valuesOf : Outcome → List ℕ
-valuesOf (Translate t) =
-    t .ste ∷ (t .cd ∷ (t .asid ∷ (t .t0sz ∷ (t .tg0 ∷ (t .epd0 ∷ (t .ips ∷ (t .ttb0 ∷ [])))))))
-valuesOf (Bypass ste) = ste ∷ []
-valuesOf BypassGlobal = []
-valuesOf (Abort event) = event ∷ []
-valuesOf Quiet = []
-valuesOf (Unserved n) = n ∷ []
-
--- so many words from a place of a list on, and 0 past its end
-abbrev pub wordsFrom : List ℕ → ℕ → ℕ → List ℕ
-wordsFrom values zero i = []
-wordsFrom values (suc m) i = getD values i 0 ∷ wordsFrom values m (i + 1)
-
--- so many pieces from a place of the array on, address and length each
-abbrev pub pieceWords : List Piece → ℕ → ℕ → List ℕ
-pieceWords pieces zero i = []
-pieceWords pieces (suc m) i =
-    getD pieces i nothing .address ∷ (getD pieces i nothing .length ∷ pieceWords pieces m (i + 1))
-
+-- zeros follow the values
 unfoldable pub laidOut : ℕ → List ℕ → Pieces → List ℕ
-laidOut kind values l = kind ∷ (wordsFrom values valuesMost 0 ++ (l .count ∷ pieceWords (l .piece) piecesMost 0))
+laidOut kind values l = kind ∷ (from values valuesMost 0 ++ (l .count ∷ pieceWords (l .piece) piecesMost 0))
 
 unfoldable pub wordsOf : Outcome → Pieces → List ℕ
 wordsOf outcome l = laidOut (kindOf outcome) (valuesOf outcome) l
@@ -114,4 +68,13 @@ listOf words = record { count = getD words countAt 0; piece = piecesIn words pie
 unfoldable pub stands : List ℕ → Bool
 stands words =
     leb 1 (getD words kindAt 0)
-    && (leb (getD words kindAt 0) 6 && (properOutcome (outcomeOf words) && properPieces (listOf words)))
+    && (leb (getD words kindAt 0) kindsMost && (properOutcome (outcomeOf words) && properPieces (listOf words)))
+
+-- words with values put from a place on
+abbrev pub putFrom : List ℕ → List ℕ → ℕ → List ℕ
+putFrom ws [] i = ws
+putFrom ws (v ∷ vs) i = putFrom (set ws i v) vs (i + 1)
+
+-- words with an outcome put before the list that they hold
+unfoldable pub outcomePut : List ℕ → Outcome → List ℕ
+outcomePut ws outcome = putFrom ws (kindOf outcome ∷ valuesOf outcome) kindAt

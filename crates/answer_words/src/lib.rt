@@ -1,56 +1,35 @@
-// An answer as words, and back: how a book keeps it. Start at `encode`.
-// Meets specs/AnswerWords.antt. The words of the values are in layout.rt; what a kept answer must have is
-// tested in proper.rt.
+// An answer's words: what they stand for, and how an outcome and a list get into them. Start at `outcome_of`.
+// Meets specs/AnswerWords.antt; where each word stands is in answers. The outcome's words are in outcome.rt; what a kept
+// answer must have is tested in proper.rt.
 ghost use mathlib.Core.Path.{_≡_};
-ghost use Rattle.answer_words.specs.AnswerWords.{wordsOf, outcomeOf, listOf, stands};
+ghost use Rattle.answer_words.specs.AnswerWords.{listOf, outcomeOf, stands, wordsOf};
+use answers::ANSWER_WORDS;
+use answers::COUNT_AT;
+use answers::KIND_AT;
+use answers::LIST_WORDS;
 use answers::Outcome;
+use answers::PIECES_AT;
+use answers::PIECES_MOST;
 use answers::Pieces;
+use answers::VALUES_AT;
 use memory_image::Piece;
+use outcome::ABORT;
+use outcome::BYPASS;
+use outcome::BYPASS_GLOBAL;
+use outcome::TRANSLATE;
+use outcome::UNSERVED;
 
-mod layout;
+pub mod outcome;
 mod proper;
 
-// A kind, eight values, the count of the list, and the address and the length of each of its four pieces.
-pub const ANSWER_WORDS: usize = 18;
-
-// The kinds; any other number stands for no answer.
-const TRANSLATE: u64 = 1;
-
-const BYPASS: u64 = 2;
-
-const BYPASS_GLOBAL: u64 = 3;
-
-const ABORT: u64 = 4;
-
-const QUIET: u64 = 5;
-
-const UNSERVED: u64 = 6;
-
-// The words of an answer. Nothing of it is lost.
-pub fn encode(outcome: Outcome, list: Pieces) -> [u64; ANSWER_WORDS]
-    ensures { λ r. ⌜ r ≡ wordsOf outcome list ⌝ }
-{
-    match outcome {
-        Outcome::Translate(t) => {
-            let values = [t.ste, t.cd, t.asid, t.t0sz, t.tg0, t.epd0, t.ips, t.ttb0];
-            layout::lay_out(TRANSLATE, values, list)
-        }
-        Outcome::Bypass(ste) => layout::lay_out(BYPASS, [ste, 0, 0, 0, 0, 0, 0, 0], list),
-        Outcome::BypassGlobal => layout::lay_out(BYPASS_GLOBAL, [0, 0, 0, 0, 0, 0, 0, 0], list),
-        Outcome::Abort(event) => layout::lay_out(ABORT, [event, 0, 0, 0, 0, 0, 0, 0], list),
-        Outcome::Quiet => layout::lay_out(QUIET, [0, 0, 0, 0, 0, 0, 0, 0], list),
-        Outcome::Unserved(case) => layout::lay_out(UNSERVED, [case, 0, 0, 0, 0, 0, 0, 0], list),
-    }
-}
-
 // The outcome that words stand for, by their kind; a quiet abort where that is none.
-pub fn outcome_of(words: [u64; ANSWER_WORDS]) -> Outcome
-    ensures { λ r. ⌜ r ≡ outcomeOf words ⌝ }
+pub fn outcome_of(words: &[u64; ANSWER_WORDS]) -> Outcome
+    ensures { λ r. ⌜ r ≡ outcomeOf (now (words .entry)) ⌝ }
 {
-    let kind = words[0];
-    let value = words[1];
+    let kind = words[KIND_AT];
+    let value = words[VALUES_AT];
     if kind == TRANSLATE {
-        let t = layout::translation_of(words);
+        let t = outcome::translation_in(words);
         return Outcome::Translate(t);
     }
     if kind == BYPASS {
@@ -69,43 +48,32 @@ pub fn outcome_of(words: [u64; ANSWER_WORDS]) -> Outcome
 }
 
 // The list that words hold.
-pub fn list_of(words: [u64; ANSWER_WORDS]) -> Pieces
-    ensures { λ r. ⌜ r ≡ listOf words ⌝ }
+pub fn list_of(words: &[u64; ANSWER_WORDS]) -> Pieces
+    ensures { λ r. ⌜ r ≡ listOf (now (words .entry)) ⌝ }
 {
-    let count = words[9];
-    let address_0 = words[10];
-    let length_0 = words[11];
-    let address_1 = words[12];
-    let length_1 = words[13];
-    let address_2 = words[14];
-    let length_2 = words[15];
-    let address_3 = words[16];
-    let length_3 = words[17];
-    let first = Piece {
-        address: address_0,
-        length: length_0,
+    let nothing = Piece {
+        address: 0,
+        length: 0,
     };
-    let second = Piece {
-        address: address_1,
-        length: length_1,
-    };
-    let third = Piece {
-        address: address_2,
-        length: length_2,
-    };
-    let fourth = Piece {
-        address: address_3,
-        length: length_3,
-    };
-    let piece = [first, second, third, fourth];
+    let mut piece = [nothing; PIECES_MOST];
+    let mut i: usize = 0;
+    while i < PIECES_MOST {
+        let at = PIECES_AT + 2 * i;
+        let next = at + 1;
+        let address = words[at];
+        let length = words[next];
+        piece[i] = Piece { address, length };
+        i += 1;
+    }
+    let count = words[COUNT_AT];
     Pieces { count, piece }
 }
 
 // Whether words stand for an answer: their kind is one, and the outcome and the list are such as a lookup gives.
-pub fn is_answer(words: [u64; ANSWER_WORDS]) -> bool
-    ensures { λ r. ⌜ r ≡ stands words ⌝ }
+pub fn is_answer(words: &[u64; ANSWER_WORDS]) -> bool
+    ensures { λ r. ⌜ r ≡ stands (now (words .entry)) ⌝ }
 {
-    let kind = words[0];
+    let kind = words[KIND_AT];
     if kind < TRANSLATE {
         return false;
     }
@@ -118,4 +86,18 @@ pub fn is_answer(words: [u64; ANSWER_WORDS]) -> bool
     }
     let list = list_of(words);
     proper::is_list(list)
+}
+
+// The answer that words stand for, as the words of that answer: those that its kind has no value for become 0.
+pub fn give(kept: &[u64; ANSWER_WORDS], words: &mut [u64; ANSWER_WORDS])
+    ensures { λ _. ⌜ now (words .exit) ≡ wordsOf (outcomeOf (now (kept .entry))) (listOf (now (kept .entry))) ⌝ }
+{
+    *words = [0u64; ANSWER_WORDS];
+    let mut j: usize = 0;
+    while j < LIST_WORDS {
+        words[COUNT_AT + j] = kept[COUNT_AT + j];
+        j += 1;
+    }
+    let outcome = outcome_of(kept);
+    outcome::put_outcome(words, outcome);
 }

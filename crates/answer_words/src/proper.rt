@@ -64,19 +64,19 @@ pub fn is_outcome(outcome: Outcome) -> bool
     }
 }
 
-// A piece ends at or below 2^52.
+// A piece ends at or below the top of all addresses.
 fn ends_below(piece: Piece) -> bool
     ensures { λ r. ⌜ r ≡ endsBelow piece ⌝ }
 {
     let address = piece.address;
     let length = piece.length;
-    if 1 << 52 < address {
+    if memory_image::ADDRESS_TOP < address {
         return false;
     }
-    length <= (1 << 52) - address
+    length <= memory_image::ADDRESS_TOP - address
 }
 
-// At most four pieces, and none that is counted ends past 2^52.
+// At most as many pieces as a list has, and none that is counted ends past the top of all addresses.
 pub fn is_list(list: Pieces) -> bool
     ensures { λ r. ⌜ r ≡ properPieces list ⌝ }
 {

@@ -1,97 +1,49 @@
--- A rule run with a list that is handed on, for every rule.
---     push-room, push-full           one piece more, where there is room and where there is none
---     run-on-done, run-on-had, run-on-fault    a step of a run
---     run-on-then                    one rule and then another: the second goes on with the first one's list
---     pieces-none, pieces-more       the list of none; and of one more
---     each-pieces, pieces-each       what holds of each piece, of a list and of its count and array
---     run-on-run                     from a list, what `run` gives, and its list after that one
+-- The list as a count and an array, and in an answer's words: for any most of pieces.
+--     push-room, push-full        one piece more in an answer's words, where there is room and where there is none
+--     pieces-length               the array has room for the most
+--     each-pieces, pieces-each    what holds of each piece, of a list and of its count and array
+--     pieceNumbers, words-numbers the words of an array's pieces
+--     only-none, only-more        the words of no piece; and of one more
 -- Assumes: nothing.
-use Prim.Native.Nat.{ℕ, zero, suc, _+_, _-_, _*_, _≤_, _<_}
+use Prim.Native.Nat.{ℕ, zero, suc, _+_, _*_, _≤_, _<_}
+use native.Mathlib.Nat.{add-zero, zero-add}
 use native.Mathlib.Omega.{arith}
 use mathlib.Core.Path.{_≡_, refl, sym, ap, _∙_}
-use mathlib.Core.Bool.{Bool, true, false}
-use mathlib.Core.List.{List, [], _∷_, _++_, append-assoc, append-nil}
+use mathlib.Core.List.{List, [], _∷_, _++_, append-assoc}
 use borrow.Author.Tests.{lt-ltb, le-ltb}
-use lib.ListN.{length, getD, set, length-append}
-use Rattle.memory_image.specs.Extent.{Extent, fetched}
-use Rattle.memory_image.specs.Rule.{Rule, done, fetch, Ran, piece, wordsAt, run, andThen, Each}
+use lib.ListN.{length, getD, set, replicate, length-append}
+use lib.Seq.{getD-append-add}
+use Rattle.memory_image.specs.Rule.{Each}
 use Rattle.memory_image.specs.declared.Piece.{Piece}
-use Rattle.memory_image.proofs.RunLaws.{run-done, run-had, run-fault}
-use Rattle.answers.specs.Pieces.{nothing, none, pushed, padded, piecesOf, EachPiece, RanOn, runOn}
-use Rattle.answers.specs.declared.Pieces.{Pieces}
+use Rattle.answers.specs.Layout.{piecesMost, countAt, piecesAt, answerWords}
+use Rattle.answers.specs.Pieces.{nothing, padded, piecesOf, EachPiece, pieceWords, onlyList, pushPiece}
 
-module _ (l : Pieces) (p : Piece) where
-  pub push-room : l .count < 4 → record { count = l .count + 1; piece = set (l .piece) (l .count) p } ≡ pushed l p
-  unfolding pushed
-  push-room room = simp (lt-ltb _ _ room)
+module _ (ws : List ℕ) {n : ℕ} (is : n ≡ getD ws countAt 0) (address size : ℕ) where
+  pub push-room :
+      n < piecesMost
+      → set (set (set ws (piecesAt + 2 * n) address) (piecesAt + 2 * n + 1) size) countAt (n + 1)
+      ≡ pushPiece ws (record { address = address; length = size })
+  unfolding pushPiece
+  push-room room = rw is (simp (lt-ltb (getD ws countAt 0) piecesMost (rw is at room)))
 
-  pub push-full : 4 ≤ l .count → l ≡ pushed l p
-  unfolding pushed
-  push-full full = simp (le-ltb _ _ full)
+  pub push-full : piecesMost ≤ n → ws ≡ pushPiece ws (record { address = address; length = size })
+  unfolding pushPiece
+  push-full full = simp (le-ltb (getD ws countAt 0) piecesMost (rw is at full))
 
--- a step of a run
-module _ {A : Type 0} (e : Extent) (limit : ℕ) (f : ℕ → ℕ) where
-  pub run-on-done : (x : A) (l : Pieces) → runOn e limit f (done x) l ≡ record { answer = x; list = l }
-  unfolding runOn
-  run-on-done x l = refl
+-- the array
+padded-length : (m : ℕ) (l : List Piece) → length (padded m l) ≡ m
+padded-length zero l = refl
+padded-length (suc m) [] = ap suc (padded-length m [])
+padded-length (suc m) (p ∷ l) = ap suc (padded-length m l)
 
-  module _ (address n : ℕ) (fault : Rule A) (rest : (ℕ → ℕ) → Rule A) (l : Pieces) where
-    pub run-on-had :
-        fetched e limit address (8 * n) ≡ true
-        → runOn e limit f (fetch address n fault rest) l
-        ≡ runOn e limit f (rest (wordsAt f (address - e .base) n)) (pushed l (piece address n))
-    unfolding runOn
-    run-on-had test = rw test
+pub pieces-length : (l : List Piece) → length (piecesOf l .piece) ≡ piecesMost
+unfolding piecesOf
+pieces-length l = padded-length piecesMost l
 
-    pub run-on-fault :
-        fetched e limit address (8 * n) ≡ false → runOn e limit f (fetch address n fault rest) l ≡ runOn e limit f fault l
-    unfolding runOn
-    run-on-fault test = rw test
-
-module _ {A B : Type 0} (e : Extent) (limit : ℕ) (f : ℕ → ℕ) (next : A → Rule B) where
-  -- what one rule and then another gives, from a list on
-  Chained : Rule A → Pieces → Type 0
-  Chained t l =
-      runOn e limit f (andThen t next) l ≡ runOn e limit f (next (runOn e limit f t l .answer)) (runOn e limit f t l .list)
-
-  pub run-on-then :
-      (t : Rule A) (l : Pieces)
-      → runOn e limit f (andThen t next) l
-      ≡ runOn e limit f (next (runOn e limit f t l .answer)) (runOn e limit f t l .list)
-  unfolding andThen Chained
-  run-on-then (done x) l = rw (run-on-done e limit f x l)
-  run-on-then (fetch address n fault rest) l =
-      go (fetched e limit address (8 * n)) refl
-      (run-on-then (rest (wordsAt f (address - e .base) n)) (pushed l (piece address n))) (run-on-then fault l)
-    where
-      go :
-          (b : Bool) → fetched e limit address (8 * n) ≡ b
-          → Chained (rest (wordsAt f (address - e .base) n)) (pushed l (piece address n)) → Chained fault l
-          → Chained (fetch address n fault rest) l
-      go true test on out =
-          rw (
-            run-on-had e limit f address n fault rest l test,
-            run-on-had e limit f address n (andThen fault next) (λ w. andThen (rest w) next) l test,
-          ) on
-      go false test on out =
-          rw (
-            run-on-fault e limit f address n fault rest l test,
-            run-on-fault e limit f address n (andThen fault next) (λ w. andThen (rest w) next) l test,
-          ) out
-
--- a list as a count and an array
 padded-more : (m : ℕ) (l : List Piece) (p : Piece) → length l < m → set (padded m l) (length l) p ≡ padded m (l ++ (p ∷ []))
 padded-more zero l p room = absurd (omega arith)
 padded-more (suc m) [] p room = refl
 padded-more (suc m) (q ∷ l) p room = ap (λ (x : List Piece). q ∷ x) (padded-more m l p (omega arith))
-
-pub pieces-none : none ≡ piecesOf []
-unfolding none piecesOf
-pieces-none = refl
-
-pub pieces-more : (l : List Piece) (p : Piece) → length l < 4 → pushed (piecesOf l) p ≡ piecesOf (l ++ (p ∷ []))
-unfolding piecesOf
-pieces-more l p room = sym (push-room (piecesOf l) p room) ∙ rw (padded-more 4 l p room, length-append)
 
 padded-at :
     (m : ℕ) (l : List Piece) → length l ≤ m → (i : ℕ) → i < length l → getD (padded m l) i nothing ≡ getD l i nothing
@@ -111,43 +63,67 @@ module _ (P : Piece → Type 0) where
   at-each [] all = tt
   at-each (p ∷ l) all = (all 0 (omega arith), at-each l (λ i few. all (suc i) (omega arith)))
 
-  module _ (l : List Piece) (room : length l ≤ 4) where
+  module _ (l : List Piece) (room : length l ≤ piecesMost) where
     pub each-pieces : Each P l → EachPiece P (piecesOf l)
     unfolding piecesOf
-    each-pieces all i few = rw (padded-at 4 l room i few) (each-at l all i few)
+    each-pieces all i few = rw (padded-at piecesMost l room i few) (each-at l all i few)
 
     pub pieces-each : EachPiece P (piecesOf l) → Each P l
     unfolding piecesOf
-    pieces-each all = at-each l (λ i few. rw (padded-at 4 l room i few) at (all i few))
+    pieces-each all = at-each l (λ i few. rw (padded-at piecesMost l room i few) at (all i few))
 
-abbrev pub grown : {A : Type 0} → List Piece → Ran A → RanOn A
-grown l r = record { answer = r .answer; list = piecesOf (l ++ r .list) }
+-- the words of an array's pieces
+abbrev pub pieceNumbers : List Piece → List ℕ
+pieceNumbers [] = []
+pieceNumbers (p ∷ ps) = p .address ∷ (p .length ∷ pieceNumbers ps)
 
-module _ {A : Type 0} (e : Extent) (limit : ℕ) (f : ℕ → ℕ) where
-  -- what a run from a list is to give, where its pieces have room
-  Grows : Rule A → List Piece → Type 0
-  Grows t l = length l + length (run e limit f t .list) ≤ 4 → runOn e limit f t (piecesOf l) ≡ grown l (run e limit f t)
+words-from : (front ps : List Piece) → pieceWords (front ++ ps) (length ps) (length front) ≡ pieceNumbers ps
+words-from front [] = refl
+words-from front (p ∷ ps) =
+    let here : getD (front ++ (p ∷ ps)) (length front) nothing ≡ p = rw add-zero at (getD-append-add front (p ∷ ps) 0 nothing) in
+    let longer : front ++ (p ∷ ps) ≡ (front ++ (p ∷ [])) ++ ps = sym (append-assoc front (p ∷ []) ps) in
+    let on : length front + 1 ≡ length (front ++ (p ∷ [])) = sym (length-append front (p ∷ [])) in
+    rw (here, longer, on) (ap (λ (rest : List ℕ). p .address ∷ (p .length ∷ rest)) (words-from (front ++ (p ∷ [])) ps))
 
-  pub run-on-run :
-      (t : Rule A) (l : List Piece) → length l + length (run e limit f t .list) ≤ 4
-      → runOn e limit f t (piecesOf l) ≡ grown l (run e limit f t)
-  unfolding Grows
-  run-on-run (done x) l room = rw (run-on-done e limit f x, run-done e limit f x, append-nil)
-  run-on-run (fetch address n fault rest) l room =
-      go (fetched e limit address (8 * n)) refl
-      (run-on-run (rest (wordsAt f (address - e .base) n)) (l ++ (piece address n ∷ []))) (run-on-run fault l) room
-    where
-      go :
-          (b : Bool) → fetched e limit address (8 * n) ≡ b
-          → Grows (rest (wordsAt f (address - e .base) n)) (l ++ (piece address n ∷ [])) → Grows fault l
-          → Grows (fetch address n fault rest) l
-      go true test on out room =
-          let room′ = rw (run-had e limit f address n fault rest test) at room in
-          rw (
-            run-on-had e limit f address n fault rest (piecesOf l) test,
-            run-had e limit f address n fault rest test,
-            pieces-more l (piece address n) (omega arith),
-          ) (on (rw length-append (omega arith)) ∙ rw append-assoc)
-      go false test on out room =
-          rw (run-on-fault e limit f address n fault rest (piecesOf l) test, run-fault e limit f address n fault rest test)
-          (out (rw (run-fault e limit f address n fault rest test) at room))
+pub words-numbers : (ps : List Piece) → length ps ≡ piecesMost → pieceWords ps piecesMost 0 ≡ pieceNumbers ps
+words-numbers ps is = rw is at (words-from [] ps)
+
+numbers-set :
+    (ps : List Piece) (i : ℕ) (p : Piece) → i < length ps
+    → set (set (pieceNumbers ps) (2 * i) (p .address)) (2 * i + 1) (p .length) ≡ pieceNumbers (set ps i p)
+numbers-set [] i p few = absurd (omega arith)
+numbers-set (q ∷ ps) zero p few = refl
+numbers-set (q ∷ ps) (suc i) p few =
+    let first : 2 * suc i ≡ suc (suc (2 * i)) = omega arith in
+    let second : suc (suc (2 * i)) + 1 ≡ suc (suc (2 * i + 1)) = omega arith in
+    rw (first, second) (ap (λ (rest : List ℕ). q .address ∷ (q .length ∷ rest)) (numbers-set ps i p (omega arith)))
+
+-- a store behind a front
+set-behind : (front l : List ℕ) (i x : ℕ) → set (front ++ l) (length front + i) x ≡ front ++ set l i x
+set-behind [] l i x = rw zero-add
+set-behind (y ∷ front) l i x =
+    let on : suc (length front) + i ≡ suc (length front + i) = omega arith in
+    rw on (ap (λ (rest : List ℕ). y ∷ rest) (set-behind front l i x))
+
+-- the words of a list
+abbrev listFront : ℕ → List ℕ
+listFront n = replicate countAt 0 ++ (n ∷ [])
+
+only-numbers : (l : List Piece) → onlyList (piecesOf l) ≡ listFront (length l) ++ pieceNumbers (padded piecesMost l)
+unfolding onlyList piecesOf
+only-numbers l = rw (words-numbers (padded piecesMost l) (padded-length piecesMost l))
+
+pub only-none : replicate answerWords 0 ≡ onlyList (piecesOf [])
+unfolding onlyList piecesOf
+only-none = refl
+
+pub only-more :
+    (l : List Piece) (p : Piece) → length l < piecesMost → pushPiece (onlyList (piecesOf l)) p ≡ onlyList (piecesOf (l ++ (p ∷ [])))
+only-more l p room =
+    let first = set-behind (listFront (length l)) (pieceNumbers (padded piecesMost l)) (2 * length l) (p .address) in
+    let second = set-behind (listFront (length l)) (set (pieceNumbers (padded piecesMost l)) (2 * length l) (p .address)) (2 * length l + 1) (p .length) in
+    let place : piecesAt + 2 * length l + 1 ≡ piecesAt + (2 * length l + 1) = omega arith in
+    rw (only-numbers l)
+    (sym (push-room (listFront (length l) ++ pieceNumbers (padded piecesMost l)) {n = length l} refl (p .address) (p .length) room)
+    ∙ rw
+    (first, place, second, numbers-set (padded piecesMost l) (length l) p (rw padded-length room), padded-more piecesMost l p room, only-numbers, length-append))

@@ -1,12 +1,11 @@
 -- What a proper outcome and a proper list have, and what makes them so.
 --     fields-proper              a translation whose fields have their widths
---     few-proper, ends-proper    of a proper list: at most four pieces, and each ends at or below 2^52
+--     few-proper, ends-proper    of a proper list: at most as many pieces as a list has, and each ends at or below 2^52
 --     proper-pieces              and a list of which that holds is proper
---     pieces-length              the array of a list of at most four pieces has four
 -- Assumes: nothing.
 use Prim.Native.Nat.{ℕ, zero, suc, _+_, _^_, _≤_, _<_}
 use native.Mathlib.Omega.{arith}
-use mathlib.Core.Path.{_≡_, refl, ap}
+use mathlib.Core.Path.{_≡_, refl}
 use mathlib.Core.Bool.{Bool, true, false}
 use mathlib.Core.List.{List, [], _∷_}
 use borrow.Author.Tests.{lt-ltb, le-leb, leb-true, leb-false}
@@ -14,7 +13,9 @@ use lib.Dec.{leb}
 use lib.ListN.{length, getD}
 use Rattle.number_laws.proofs.Tests.{both}
 use Rattle.memory_image.specs.declared.Piece.{Piece}
-use Rattle.answers.specs.Pieces.{nothing, padded, piecesOf, EachPiece}
+use Rattle.memory_image.specs.Extent.{addressTop}
+use Rattle.answers.specs.Layout.{piecesMost}
+use Rattle.answers.specs.Pieces.{nothing, EachPiece}
 use Rattle.answers.specs.Proper.{properFields, properPieces, endBelowFrom}
 use Rattle.answers.specs.declared.Pieces.{Pieces}
 use Rattle.answers.specs.declared.Translation.{Translation}
@@ -26,7 +27,7 @@ fields-proper t asid t0sz tg0 epd0 = simp (lt-ltb _ _ asid, lt-ltb _ _ t0sz, lt-
 
 -- at or below 2^52
 abbrev pub Below : Piece → Type 0
-Below p = p .address + p .length ≤ 2 ^ 52
+Below p = p .address + p .length ≤ addressTop
 
 -- so many pieces from a place on
 module _ (pieces : List Piece) where
@@ -35,13 +36,13 @@ module _ (pieces : List Piece) where
   from-each zero i all k low high = absurd (omega arith)
   from-each (suc m) i all k low high = go (leb k i) refl (λ past. from-each m (i + 1) (parts .1) k past (omega arith))
     where
-      parts : (leb (getD pieces i nothing .address + getD pieces i nothing .length) (2 ^ 52) ≡ true) × (endBelowFrom pieces m (i + 1) ≡ true)
+      parts : (leb (getD pieces i nothing .address + getD pieces i nothing .length) (addressTop) ≡ true) × (endBelowFrom pieces m (i + 1) ≡ true)
       parts = both _ _ all
 
       go : (b : Bool) → leb k i ≡ b → (i + 1 ≤ k → Below (getD pieces k nothing)) → Below (getD pieces k nothing)
       go true is later =
           let here : k ≡ i = omega (arith, leb-true k i is) in
-          rw here (leb-true (getD pieces i nothing .address + getD pieces i nothing .length) (2 ^ 52) (parts .0))
+          rw here (leb-true (getD pieces i nothing .address + getD pieces i nothing .length) (addressTop) (parts .0))
       go false is later = later (omega (arith, leb-false k i is))
 
   each-from :
@@ -52,26 +53,17 @@ module _ (pieces : List Piece) where
 
 module _ (l : Pieces) where
   module _ (proper : properPieces l ≡ true) where
-    parts : (leb (l .count) 4 ≡ true) × (endBelowFrom (l .piece) (l .count) 0 ≡ true)
+    parts : (leb (l .count) piecesMost ≡ true) × (endBelowFrom (l .piece) (l .count) 0 ≡ true)
     unfolding properPieces
     parts = both _ _ proper
 
-    pub few-proper : l .count ≤ 4
-    few-proper = leb-true (l .count) 4 (parts .0)
+    pub few-proper : l .count ≤ piecesMost
+    few-proper = leb-true (l .count) piecesMost (parts .0)
 
     pub ends-proper : EachPiece Below l
     ends-proper i few = from-each (l .piece) (l .count) 0 (parts .1) i (omega arith) (omega arith)
 
-  pub proper-pieces : l .count ≤ 4 → EachPiece Below l → properPieces l ≡ true
+  pub proper-pieces : l .count ≤ piecesMost → EachPiece Below l → properPieces l ≡ true
   unfolding properPieces
   proper-pieces few ends =
       simp (le-leb _ _ few) (each-from (l .piece) (l .count) 0 (λ k low high. ends k (omega arith)))
-
-padded-length : (m : ℕ) (l : List Piece) → length (padded m l) ≡ m
-padded-length zero l = refl
-padded-length (suc m) [] = ap suc (padded-length m [])
-padded-length (suc m) (p ∷ l) = ap suc (padded-length m l)
-
-pub pieces-length : (l : List Piece) → length (piecesOf l .piece) ≡ 4
-unfolding piecesOf
-pieces-length l = padded-length 4 l

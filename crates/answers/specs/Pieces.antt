@@ -1,34 +1,24 @@
--- The list of what was fetched, as the code has it: a count, and an array with room for the most that a lookup reads.
---     piecesMost         that most
---     none, pushed       no piece; one piece more
+-- The list of what was fetched: as a count and an array with room for the most that a lookup reads, and in an answer's words.
+--     none               no piece
 --     piecesOf           a list, as a count and an array: the pieces, and zeros after them
 --     EachPiece          something holds of each piece that is counted
---     runOn              what a rule gives, and the list as it grows from one that is handed on
+--     onlyList           the words of a list and of nothing else
+--     pushPiece          one piece more in an answer's words
 -- Assumes: nothing.
-use Prim.Native.Nat.{ℕ, zero, suc, _+_, _-_, _*_, _<_}
-use mathlib.Core.List.{List, [], _∷_}
+use Prim.Native.Nat.{ℕ, zero, suc, _+_, _*_, _<_}
+use mathlib.Core.List.{List, [], _∷_, _++_}
 use lib.Dec.{ltb}
 use lib.ListN.{length, getD, set, replicate}
 use Rattle.bit_fields.specs.Choice.{if_then_else_}
-use Rattle.memory_image.specs.Extent.{Extent, fetched}
-use Rattle.memory_image.specs.Rule.{Rule, done, fetch, piece, wordsAt}
 use Rattle.memory_image.specs.declared.Piece.{Piece}
+use Rattle.answers.specs.Layout.{piecesMost, countAt, piecesAt}
 use Rattle.answers.specs.declared.Pieces.{Pieces}
-
-abbrev pub piecesMost : ℕ
-piecesMost = 4
 
 abbrev pub nothing : Piece
 nothing = record { address = 0; length = 0 }
 
 unfoldable pub none : Pieces
 none = record { count = 0; piece = replicate piecesMost nothing }
-
--- a list that is full takes no more
-unfoldable pub pushed : Pieces → Piece → Pieces
-pushed l p =
-    if ltb (l .count) piecesMost then record { count = l .count + 1; piece = set (l .piece) (l .count) p }
-    else l
 
 -- m pieces: those of the list, and zeros after them
 abbrev pub padded : ℕ → List Piece → List Piece
@@ -42,13 +32,23 @@ piecesOf l = record { count = length l; piece = padded piecesMost l }
 abbrev pub EachPiece : (Piece → Type 0) → Pieces → Type 0
 EachPiece P l = (i : ℕ) → i < l .count → P (getD (l .piece) i nothing)
 
-pub record RanOn (A : Type 0) : Type 0 where
-  pub answer : A
-  pub list : Pieces
+-- so many pieces from a place of the array on, address and length each
+abbrev pub pieceWords : List Piece → ℕ → ℕ → List ℕ
+pieceWords pieces zero i = []
+pieceWords pieces (suc m) i =
+    getD pieces i nothing .address ∷ (getD pieces i nothing .length ∷ pieceWords pieces m (i + 1))
 
-unfoldable pub runOn : {A : Type 0} → Extent → ℕ → (ℕ → ℕ) → Rule A → Pieces → RanOn A
-runOn e limit f (done x) l = record { answer = x; list = l }
-runOn e limit f (fetch address n fault rest) l =
-    if fetched e limit address (8 * n)
-    then runOn e limit f (rest (wordsAt f (address - e .base) n)) (pushed l (piece address n))
-    else runOn e limit f fault l
+-- zeros stand where the kind and the values will
+unfoldable pub onlyList : Pieces → List ℕ
+onlyList l = replicate countAt 0 ++ (l .count ∷ pieceWords (l .piece) piecesMost 0)
+
+-- a list that is full takes no more
+unfoldable pub pushPiece : List ℕ → Piece → List ℕ
+pushPiece ws p =
+    if ltb (getD ws countAt 0) piecesMost
+    then
+    set
+    (set (set ws (piecesAt + 2 * getD ws countAt 0) (p .address)) (piecesAt + 2 * getD ws countAt 0 + 1) (p .length))
+    countAt
+    (getD ws countAt 0 + 1)
+    else ws

@@ -9,19 +9,20 @@ use mathlib.Core.Bool.{Bool, true, _&&_, _||_}
 use mathlib.Core.List.{List}
 use lib.Dec.{eqb, leb}
 use lib.ListN.{length, getD}
-use Rattle.bit_fields.specs.Bits.{inBits}
 use Rattle.memory_image.specs.Extent.{addressTop}
 use Rattle.memory_image.specs.declared.Piece.{Piece}
 use Rattle.answers.specs.Outcome.{cBadStreamId, fSteFetch, cBadSte, fStreamDisabled, cBadSubstreamId, fCdFetch, cBadCd, stage2, vmsa32, streamWorld}
-use Rattle.answers.specs.Pieces.{piecesMost, nothing}
+use Rattle.answers.specs.Layout.{piecesMost}
+use Rattle.answers.specs.Pieces.{nothing}
+use Rattle.answers.specs.Values.{valuesOf, widthsOf, valuesFit}
 use Rattle.answers.specs.declared.Outcome.{Outcome}
 use Rattle.answers.specs.declared.Outcome.the-variants.{Translate, Bypass, BypassGlobal, Abort, Quiet, Unserved}
 use Rattle.answers.specs.declared.Translation.{Translation}
 use Rattle.answers.specs.declared.Pieces.{Pieces}
 
--- ASID [63:48], T0SZ [5:0], TG0 [7:6], EPD0 [14]
+-- ASID, T0SZ, TG0 and EPD0 have their widths
 unfoldable pub properFields : Translation → Bool
-properFields t = inBits (t .asid) 16 && (inBits (t .t0sz) 6 && (inBits (t .tg0) 2 && inBits (t .epd0) 1))
+properFields t = valuesFit (valuesOf (Translate t)) (widthsOf (Translate t))
 
 -- C_BAD_STREAMID 0x02, F_STE_FETCH 0x03, C_BAD_STE 0x04, F_STREAM_DISABLED 0x06, C_BAD_SUBSTREAMID 0x08, F_CD_FETCH 0x09, C_BAD_CD 0x0A
 unfoldable pub listedEvent : ℕ → Bool

@@ -1,8 +1,9 @@
 // What a lookup answers, and the list of the descriptors that it read. Start at `Outcome`.
-// Meets specs/Outcome.antt, which has the numbers of 01, and specs/Pieces.antt.
+// Meets specs/Outcome.antt, which has the numbers of 01, and specs/Pieces.antt; where the words of an answer stand is
+// in specs/Layout.antt too.
 ghost use mathlib.Core.Path.{_≡_};
 ghost use Rattle.answers.specs.Outcome.{recorded};
-ghost use Rattle.answers.specs.Pieces.{none, pushed};
+ghost use Rattle.answers.specs.Pieces.{none, pushPiece};
 use memory_image::Piece;
 use registers::Registers;
 
@@ -64,8 +65,25 @@ pub fn is_recorded(registers: Registers, event: u64) -> bool
     true
 }
 
+// As many values as the longest outcome has.
+pub const VALUES_MOST: usize = 8;
+
 // The most descriptors that a lookup reads.
 pub const PIECES_MOST: usize = 4;
+
+// An answer's words: its kind, its values, the count of its list, and the address and the length of each piece.
+pub const KIND_AT: usize = 0;
+
+pub const VALUES_AT: usize = KIND_AT + 1;
+
+pub const COUNT_AT: usize = VALUES_AT + VALUES_MOST;
+
+pub const PIECES_AT: usize = COUNT_AT + 1;
+
+// The words of a list: its count, and its pieces.
+pub const LIST_WORDS: usize = 1 + 2 * PIECES_MOST;
+
+pub const ANSWER_WORDS: usize = COUNT_AT + LIST_WORDS;
 
 // The descriptors read, in order: the first `count` of the array, and zeros after them.
 pub struct Pieces {
@@ -84,18 +102,18 @@ impl Pieces {
         let piece = [nothing; PIECES_MOST];
         Pieces { count: 0, piece }
     }
+}
 
-    // The list with one piece more, or as it is where it is full.
-    pub fn push(self, piece: Piece) -> Self
-        ensures { λ r. ⌜ r ≡ pushed self piece ⌝ }
-    {
-        let n = self.count as usize;
-        if n < PIECES_MOST {
-            let mut list = self;
-            list.piece[n] = piece;
-            list.count = list.count + 1;
-            return list;
-        }
-        self
+// One piece more on the list in an answer's words, or none where it is full.
+pub fn push_piece(words: &mut [u64; ANSWER_WORDS], address: u64, length: u64)
+    ensures { λ _. ⌜ now (words .exit) ≡ pushPiece (now (words .entry)) (record { address = address; length = length }) ⌝ }
+{
+    let n = words[COUNT_AT] as usize;
+    if n < PIECES_MOST {
+        let at = PIECES_AT + 2 * n;
+        let next = at + 1;
+        words[at] = address;
+        words[next] = length;
+        words[COUNT_AT] = n as u64 + 1;
     }
 }

@@ -1,8 +1,10 @@
 -- Which way a choice by a test of two numbers goes: one law for each test and each way, for values of any type.
 --     if-lt, if-not-lt, if-le, if-not-le, if-eq, if-not-eq
+--     either      what holds of both ways of a choice holds of the choice
 -- Assumes: nothing.
 use Prim.Native.Nat.{ℕ, _≤_, _<_}
 use mathlib.Core.Path.{_≡_}
+use mathlib.Core.Bool.{Bool, true, false}
 use borrow.Author.Tests.{lt-ltb, le-ltb, le-leb, lt-leb, eq-eqb, ne-eqb}
 use lib.Dec.{eqb, leb, ltb}
 use Rattle.bit_fields.specs.Choice.{if_then_else_}
@@ -25,3 +27,7 @@ module _ {A : Type 0} (first second : A) (a b : ℕ) where
 
   pub if-not-eq : (a ≡ b → ⊥) → second ≡ (if eqb a b then first else second)
   if-not-eq is = simp (ne-eqb _ _ is)
+
+pub either : {A : Type 0} (P : A → Type 0) (test : Bool) {first second : A} → P first → P second → P (if test then first else second)
+either P true this that = this
+either P false this that = that

@@ -1,7 +1,7 @@
 // What a CD says. Start at `read_cd`.
-// Meets specs/ContextEntry.antt; reads no memory: it is handed the two words that hold the fields.
+// Meets specs/ContextEntry.antt; the CD is handed over as its place in the memory, and its fields are in fields.rt.
 ghost use mathlib.Core.Path.{_≡_};
-ghost use Rattle.memory_image.specs.Words.{twoWords};
+ghost use Rattle.memory_image.specs.Words.{wordOf};
 ghost use Rattle.context_entry.specs.ContextEntry.{cdRule, effectiveIps, firstHalf, granule0, granuleThere, halfFits, translated, vmsa32Rule};
 use answers::Outcome;
 use answers::Translation;
@@ -9,6 +9,8 @@ use bit_fields::field;
 use bit_fields::in_bits;
 use bit_fields::smaller;
 use registers::Registers;
+
+pub mod fields;
 
 // The size of a page of tables.
 pub enum Granule {
@@ -38,7 +40,7 @@ fn granule_of(code: u64) -> Granule
 }
 
 // Whether IDR5 has a granule.
-fn is_there(registers: Registers, granule: Granule) -> bool
+fn granule_there(registers: Registers, granule: Granule) -> bool
     ensures { λ r. ⌜ r ≡ granuleThere registers granule ⌝ }
 {
     match granule {
@@ -50,7 +52,7 @@ fn is_there(registers: Registers, granule: Granule) -> bool
 }
 
 // The effective IPS, in bits.
-fn ips_bits(registers: Registers, code: u64) -> u64
+fn effective_ips(registers: Registers, code: u64) -> u64
     ensures { λ r. ⌜ r ≡ effectiveIps registers code ⌝ }
 {
     let oas = registers.oas_size();
@@ -65,7 +67,7 @@ fn half_fits(registers: Registers, bits: u64, half: Half) -> bool
     ensures { λ r. ⌜ r ≡ halfFits registers bits half ⌝ }
 {
     let granule = half.granule;
-    if !is_there(registers, granule) {
+    if !granule_there(registers, granule) {
         return false;
     }
     if half.tsz < 16 {
@@ -78,25 +80,25 @@ fn half_fits(registers: Registers, bits: u64, half: Half) -> bool
 }
 
 // The half of the address space that TTB0 is for.
-fn first_half(w0: u64, w1: u64) -> Half
-    ensures { λ r. ⌜ r ≡ firstHalf (twoWords w0 w1) ⌝ }
+fn first_half(memory: &[u8], place: usize) -> Half
+    ensures { λ r. ⌜ r ≡ firstHalf (wordOf (now (memory .entry)) place) ⌝ }
 {
-    let granule = granule_of(field(w0, 6, 2));
-    let tsz = field(w0, 0, 6);
-    let ttb = field(w1, 4, 52) * 16;
+    let granule = granule_of(fields::tg0(memory, place));
+    let tsz = fields::t0sz(memory, place);
+    let ttb = fields::ttb0(memory, place);
     Half { granule, tsz, ttb }
 }
 
 // An accepted CD's fields.
-fn translation(registers: Registers, ste: u64, cd: u64, w0: u64, w1: u64) -> Translation
-    ensures { λ r. ⌜ r ≡ translated registers ste cd (twoWords w0 w1) ⌝ }
+fn translation(registers: Registers, ste: u64, cd: u64, memory: &[u8], place: usize) -> Translation
+    ensures { λ r. ⌜ r ≡ translated registers ste cd (wordOf (now (memory .entry)) place) ⌝ }
 {
-    let asid = field(w0, 48, 16);
-    let t0sz = field(w0, 0, 6);
-    let tg0 = field(w0, 6, 2);
-    let epd0 = field(w0, 14, 1);
-    let ips = ips_bits(registers, field(w0, 32, 3));
-    let ttb0 = field(w1, 4, 52) * 16;
+    let asid = fields::asid(memory, place);
+    let t0sz = fields::t0sz(memory, place);
+    let tg0 = fields::tg0(memory, place);
+    let epd0 = fields::epd0(memory, place);
+    let ips = effective_ips(registers, fields::ips(memory, place));
+    let ttb0 = fields::ttb0(memory, place);
     Translation {
         ste,
         cd,
@@ -120,25 +122,25 @@ fn vmsa_32(registers: Registers) -> Outcome
     }
 }
 
-// What the CD at an address says, by the first two of its words, for the STE at another.
-pub fn read_cd(registers: Registers, ste: u64, cd: u64, w0: u64, w1: u64) -> Outcome
-    ensures { λ r. ⌜ r ≡ cdRule registers ste cd (twoWords w0 w1) ⌝ }
+// What the CD at an address, and at a place of the memory, says for the STE at another address.
+pub fn read_cd(registers: Registers, ste: u64, cd: u64, memory: &[u8], place: usize) -> Outcome
+    ensures { λ r. ⌜ r ≡ cdRule registers ste cd (wordOf (now (memory .entry)) place) ⌝ }
 {
-    if field(w0, 31, 1) == 0 {
+    if fields::v(memory, place) == 0 {
         return Outcome::Abort(answers::C_BAD_CD);
     }
-    if field(w0, 41, 1) == 0 {
+    if fields::aa64(memory, place) == 0 {
         return vmsa_32(registers);
     }
     if field(registers.ttf(), 1, 1) == 0 {
         return Outcome::Abort(answers::C_BAD_CD);
     }
-    let found = translation(registers, ste, cd, w0, w1);
-    if field(w0, 14, 1) == 1 {
+    let found = translation(registers, ste, cd, memory, place);
+    if fields::epd0(memory, place) == 1 {
         return Outcome::Translate(found);
     }
-    let half = first_half(w0, w1);
-    let bits = ips_bits(registers, field(w0, 32, 3));
+    let half = first_half(memory, place);
+    let bits = found.ips;
     if half_fits(registers, bits, half) {
         return Outcome::Translate(found);
     }

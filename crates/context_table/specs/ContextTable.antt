@@ -7,21 +7,16 @@
 -- The CD itself is fetched by whoever asks where it is.
 -- Assumes: nothing.
 use Prim.Native.Nat.{ℕ, _+_, _*_, _^_}
-use mathlib.Core.List.{List}
 use lib.Dec.{eqb}
 use Rattle.bit_fields.specs.Bits.{bits, high, low}
 use Rattle.bit_fields.specs.Choice.{if_then_else_}
-use Rattle.memory_image.specs.Extent.{extentOf}
-use Rattle.memory_image.specs.Words.{bytes}
 use Rattle.memory_image.specs.Rule.{Rule, done, fetch}
+use Rattle.registers.specs.declared.Registers.{Registers}
 use Rattle.answers.specs.Outcome.{cBadSubstreamId, fCdFetch}
-use Rattle.answers.specs.Pieces.{runOn}
 use Rattle.answers.specs.declared.Outcome.the-variants.{Abort}
-use Rattle.answers.specs.declared.Pieces.{Pieces}
 use Rattle.stream_entry.specs.StreamEntry.{s1Fmt, s1CdMax, s1ContextPtr}
 use Rattle.context_table.specs.declared.Found.{Found}
 use Rattle.context_table.specs.declared.Found.the-variants.{Cd, Ended}
-use Rattle.context_table.specs.declared.Walked.{Walked}
 
 -- S1Fmt 1 and 2 put the low 6 and 10 bits in the leaf
 unfoldable pub leafBits : ℕ → ℕ
@@ -34,27 +29,19 @@ abbrev pub l1cdAt : ℕ → ℕ → ℕ → ℕ
 l1cdAt pointer leaf index = pointer + 8 * high index leaf
 
 -- L1CD: V [0] clear is C_BAD_SUBSTREAMID; L2Ptr is [55:12]
-unfoldable pub l1cdRule : ℕ → ℕ → ℕ → Found
-l1cdRule leaf l1cd index =
+unfoldable pub l1cdRule : Registers → ℕ → ℕ → ℕ → Found
+l1cdRule r leaf l1cd index =
     if eqb (bits 0 0 l1cd) 0 then Ended (Abort cBadSubstreamId)
     else Cd (bits 55 12 l1cd * 2 ^ 12 + 64 * low index leaf)
 
 -- a two-level table at a pointer, with so many low bits of the index in the leaf
-unfoldable pub twoLevelRule : ℕ → ℕ → ℕ → Rule Found
-twoLevelRule pointer leaf index =
-    fetch (l1cdAt pointer leaf index) 1 (done (Ended (Abort fCdFetch))) (λ w. done (l1cdRule leaf (w 0) index))
+unfoldable pub twoLevelRule : Registers → ℕ → ℕ → ℕ → Rule Found
+twoLevelRule r pointer leaf index =
+    fetch (l1cdAt pointer leaf index) 1 (done (Ended (Abort fCdFetch))) (λ w. done (l1cdRule r leaf (w 0) index))
 
 -- with S1CDMax 0, S1Fmt is ignored and the one CD is at S1ContextPtr; S1Fmt 0: S1ContextPtr + 64 x index
-unfoldable pub contextRule : (ℕ → ℕ) → ℕ → Rule Found
-contextRule w index =
+unfoldable pub contextRule : Registers → (ℕ → ℕ) → ℕ → Rule Found
+contextRule r w index =
     if eqb (s1CdMax w) 0 then done (Cd (s1ContextPtr w))
     else if eqb (s1Fmt w) 0 then done (Cd (s1ContextPtr w + 64 * index))
-    else twoLevelRule (s1ContextPtr w) (leafBits (s1Fmt w)) index
-
--- what the rule gives on a lent memory, and the list as it grows from one that is handed on
-unfoldable pub walkedOn : ℕ → List ℕ → ℕ → Rule Found → Pieces → Walked
-walkedOn base memory limit rule l =
-    record {
-      found = runOn (extentOf base memory) limit (bytes memory) rule l .answer;
-      list = runOn (extentOf base memory) limit (bytes memory) rule l .list;
-    }
+    else twoLevelRule r (s1ContextPtr w) (leafBits (s1Fmt w)) index

@@ -7,7 +7,7 @@
 --     recorded-so, recorded-not                      whether an event is recorded
 -- Assumes: nothing.
 use Prim.Native.Nat.{ℕ, _-_, _^_}
-use mathlib.Core.Path.{_≡_, refl, ap, _∙_}
+use mathlib.Core.Path.{_≡_, refl, sym, ap, _∙_}
 use mathlib.Core.Bool.{Bool, true, false}
 use mathlib.Core.List.{List, [], _∷_}
 use Rattle.ids.specs.declared.Request.{Request}
@@ -19,8 +19,9 @@ use Rattle.answers.specs.Outcome.{recorded}
 use Rattle.answers.specs.declared.Outcome.{Outcome}
 use Rattle.answers.specs.declared.Pieces.{Pieces}
 use Rattle.answer_words.specs.AnswerWords.{wordsOf}
-use Rattle.lookup.specs.Lookup.{lookedUp}
+use Rattle.lookup.specs.Lookup.{lookedUp, numberSays, wordsPut, LooksInto}
 use Rattle.lookup.specs.Part.{steAt}
+use Rattle.lookup.specs.declared.Answer.{Answer}
 use Rattle.lookup.specs.declared.Answer.the-variants as answer
 use Rattle.lookup.specs.declared.Looked.{Looked}
 use Rattle.book.specs.Book.{Opened, Asks, Noticed}
@@ -65,6 +66,19 @@ module _ {r r′ : Registers} (is-r : r ≡ r′) {q q′ : Request} (is-q : q �
       → AnswerIs (wordsOf outcome (looked .list)) 0 says after → LooksUp (lookedUp r′ base memory q′) before says after
   unfolding answerSays answerPut
   looked-up so put = rw (← same) (record { result = put .result ∙ simp so; words = put .put ∙ simp so })
+
+-- a lookup into the answer's words
+module _ {r r′ : Registers} (is-r : r ≡ r′) {q q′ : Request} (is-q : q ≡ q′) (base : ℕ) (memory before : List ℕ) {says : ℕ}
+    {after : List ℕ} (is : LooksInto (lookedUp r base memory q) before says after) where
+  into-up :
+      (a : Answer) (l : Pieces) → LooksInto (record { answer = a; list = l }) before says after
+      → LooksUp (record { answer = a; list = l }) before says after
+  unfolding answerSays answerPut numberSays wordsPut
+  into-up (answer.Refused n) l into = record { result = into .result; words = into .words }
+  into-up (answer.Is outcome) l into = record { result = into .result; words = into .words }
+
+  pub looked-into : LooksUp (lookedUp r′ base memory q′) before says after
+  looked-into = rw (← is-r, ← is-q) (into-up (lookedUp r base memory q .answer) (lookedUp r base memory q .list) is)
 
 -- the STE's place
 module _ {r r′ : Registers} (is-r : r ≡ r′) {q q′ : Request} (is-q : q ≡ q′) (base : ℕ) (memory : List ℕ) {at : Fetched}

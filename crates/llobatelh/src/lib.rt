@@ -10,7 +10,6 @@ ghost use Rattle.llobatelh.specs.Calls.{AnswerIs, LooksUp, partSays, rec
 ghost use Rattle.llobatelh.specs.Handed.{requestFrom};
 use answers::Outcome;
 use answers::Pieces;
-use lookup::Answer;
 use memory_image::Fetched;
 use registers::REGISTER_WORDS;
 
@@ -36,13 +35,7 @@ pub extern "C" fn llobatelh_lookup(
 {
     let regs = handed::registers(registers, strtab_base);
     let request = handed::request(stream, given, substream);
-    let looked = lookup::lookup(regs, base, memory, request);
-    let said = looked.answer;
-    let list = looked.list;
-    match said {
-        Answer::Refused(number) => number,
-        Answer::Is(outcome) => put(answer, outcome, list, 0),
-    }
+    lookup::look_into(regs, base, memory, request, answer)
 }
 
 // Puts an answer's words, and says the number that it is handed.

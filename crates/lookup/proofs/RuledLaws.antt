@@ -6,12 +6,13 @@
 --     stream-ended, stream-goes  from the stream
 --     refused-first .. answered-last    the refusals in their order, and the answer
 -- Assumes: nothing.
-use Prim.Native.Nat.{ℕ, _+_, _^_, _%_, _≤_, _<_}
+use Prim.Native.Nat.{ℕ, zero, suc, _+_, _^_, _%_, _≤_, _<_}
 use native.Mathlib.Omega.{arith}
 use mathlib.Core.Path.{_≡_, refl, sym, ap, _∙_}
 use mathlib.Core.Bool.{Bool, true, false}
-use mathlib.Core.List.{List, []}
-use lib.ListN.{length}
+use mathlib.Core.List.{List, [], _∷_}
+use lib.ListN.{length, replicate}
+use Rattle.bit_fields.specs.Choice.{if_then_else_}
 use Rattle.bit_fields.proofs.BitsLaws.{power-is}
 use Rattle.ids.specs.Ids.{refusal3}
 use Rattle.ids.specs.declared.Request.{Request}
@@ -21,13 +22,16 @@ use Rattle.registers.specs.declared.Registers.{Registers}
 use Rattle.registers.proofs.SizesLaws.{oas-at-most}
 use Rattle.memory_image.specs.Extent.{extentOf, refusal2}
 use Rattle.memory_image.specs.Words.{bytes}
+use Rattle.memory_image.specs.declared.Piece.{Piece}
 use Rattle.memory_image.specs.Rule.{Fetches, Every, Gives, run}
 use Rattle.memory_image.proofs.RunLaws.{fetches-then, run-few, every-then, gives-then}
-use Rattle.answers.specs.Pieces.{none, piecesOf, runOn}
+use Rattle.answers.specs.Pieces.{none, padded, piecesOf, runOn, onlyList, RanIn, runIn, WalksIn}
 use Rattle.answers.specs.Proper.{listedEvent, properOutcome}
 use Rattle.answers.specs.declared.Outcome.{Outcome}
 use Rattle.answers.specs.declared.Pieces.{Pieces}
-use Rattle.answers.proofs.PiecesLaws.{run-on-done, run-on-then, run-on-run, pieces-none}
+use Rattle.answer_words.specs.AnswerWords.{wordsOf, outcomeOf, listOf, outcomePut, PutIs}
+use Rattle.answer_words.proofs.AnswerWordsLaws.{put-words, outcome-back, list-back}
+use Rattle.answers.proofs.PiecesLaws.{run-on-done, run-on-then, run-on-run, pieces-none, listWords, grownIn, run-in-done, run-in-then, run-in-run, words-only}
 use Rattle.stream_table.specs.StreamTable.{streamRule, walkedOn}
 use Rattle.stream_table.specs.declared.Found.{Found}
 use Rattle.stream_table.specs.declared.Found.the-variants as stream
@@ -43,9 +47,10 @@ use Rattle.context_table.specs.declared.Found.{Found as CdFound}
 use Rattle.context_table.specs.declared.Found.the-variants as context
 use Rattle.context_table.proofs.ContextLaws.{EndsProper as ContextProper, context-few, context-every, context-proper}
 use Rattle.context_entry.proofs.EntryLaws.{cd-proper}
-use Rattle.lookup.specs.Lookup.{fromCd, fromEntry, fromSte, lookupRule, lookedOn, ruled, refusedWith, answered, lookedUp}
+use Rattle.lookup.specs.Lookup.{fromCd, fromEntry, fromSte, lookupRule, lookedOn, ruled, refusedWith, answered, lookedUp, AnswersIn, numberSays, wordsPut, LooksInto}
 use Rattle.lookup.specs.declared.Looked.{Looked}
-use Rattle.lookup.specs.declared.Answer.the-variants.{Is}
+use Rattle.lookup.specs.declared.Answer.{Answer}
+use Rattle.lookup.specs.declared.Answer.the-variants.{Refused, Is}
 
 -- at most four: an L1STD, an STE, an L1CD, a CD
 cd-few : (r : Registers) (ste : ℕ) (found : CdFound) → Fetches 1 (fromCd r ste found)
@@ -174,3 +179,130 @@ module _ (r : Registers) (base : ℕ) (memory : List ℕ) (request : Request) wh
         pub answered-last : third ≡ false → looked ≡ answered (ruled r base memory request) → looked ≡ lookedUp r base memory request
         unfolding lookedUp
         answered-last so is = rw is (simp (← is-first, passed, ← is-second, passed′, ← is-third, so))
+
+-- the same with the list in an answer's words
+module _ (r : Registers) (base : ℕ) (memory : List ℕ) (request : Request) where
+  in-ruled :
+      runIn (extentOf base memory) (2 ^ oasSize r) (bytes memory) (lookupRule r request) (listWords [])
+      ≡ grownIn [] (ruled r base memory request)
+  unfolding ruled
+  in-ruled =
+      let few = run-few (extentOf base memory) (2 ^ oasSize r) (bytes memory) 4 (lookupRule r request) (lookup-few r request) in
+      run-in-run (extentOf base memory) (2 ^ oasSize r) (bytes memory) (lookupRule r request) [] (omega arith)
+
+  module _ {size limit : ℕ} (is-size : size ≡ oasSize r) (is-limit : limit ≡ 2 ^ size % 2 ^ 64) {found : Found} {longer : List ℕ}
+      (said : WalksIn Found (runIn (extentOf base memory) limit (bytes memory) (streamRule r (request .stream .number)) (replicate 18 0)) found longer) where
+    in-stream :
+        runIn (extentOf base memory) limit (bytes memory) (fromSte r (request .substream) found) longer
+        ≡ grownIn [] (ruled r base memory request)
+    unfolding lookupRule
+    in-stream =
+        sym
+        (run-in-then (extentOf base memory) limit (bytes memory) (fromSte r (request .substream)) (streamRule r (request .stream .number)) (listWords [])
+        ∙ rw (← said .result, ← said .words))
+        ∙ rw (limit-is r is-size is-limit) in-ruled
+
+    in-finish :
+        {outcome : Outcome} {last : List ℕ}
+        → WalksIn Outcome (runIn (extentOf base memory) limit (bytes memory) (fromSte r (request .substream) found) longer) outcome last
+        → AnswersIn (ruled r base memory request) outcome last
+    in-finish goes =
+        record {
+          result = goes .result ∙ ap (λ (x : RanIn Outcome). x .answer) in-stream;
+          words = goes .words ∙ ap (λ (x : RanIn Outcome). x .words) in-stream ∙ words-only _;
+        }
+
+    pub in-stream-ended :
+        {outcome : Outcome} → found ≡ stream.Ended outcome → AnswersIn (ruled r base memory request) outcome longer
+    unfolding fromSte
+    in-stream-ended {outcome} is =
+        in-finish (rw (is, run-in-done (extentOf base memory) limit (bytes memory) outcome longer) (record { result = refl; words = refl }))
+
+    pub in-stream-goes :
+        {ste : ℕ} {outcome : Outcome} {last : List ℕ} → found ≡ stream.Ste ste
+        → WalksIn Outcome (runIn (extentOf base memory) limit (bytes memory) (fromSte r (request .substream) (stream.Ste ste)) longer) outcome last
+        → AnswersIn (ruled r base memory request) outcome last
+    in-stream-goes is goes = in-finish (rw is goes)
+
+  module _ (before : List ℕ) {first : Bool} (is-first : first ≡ refusal1 r) where
+    pub in-refused-first : first ≡ true → LooksInto (lookedUp r base memory request) before 1 before
+    unfolding numberSays wordsPut
+    in-refused-first so = rw (← refused-first r base memory request is-first so refl) (record { result = refl; words = refl })
+
+    module _ (passed : first ≡ false) {second : Bool} (is-second : second ≡ refusal2 (extentOf base memory)) where
+      pub in-refused-second : second ≡ true → LooksInto (lookedUp r base memory request) before 2 before
+      unfolding numberSays wordsPut
+      in-refused-second so =
+          rw (← refused-second r base memory request is-first passed is-second so refl) (record { result = refl; words = refl })
+
+      module _ (passed′ : second ≡ false) {third : Bool} (is-third : third ≡ refusal3 request) where
+        pub in-refused-third : third ≡ true → LooksInto (lookedUp r base memory request) before 3 before
+        unfolding numberSays wordsPut
+        in-refused-third so =
+            rw (← refused-third r base memory request is-first passed is-second passed′ is-third so refl)
+            (record { result = refl; words = refl })
+
+        pub in-answered :
+            third ≡ false → {outcome : Outcome} {listed : List ℕ} → AnswersIn (ruled r base memory request) outcome listed
+            → {says : ℕ} {after : List ℕ} → PutIs (outcomePut listed outcome) 0 says after
+            → LooksInto (lookedUp r base memory request) before says after
+        unfolding numberSays wordsPut
+        in-answered so {outcome} {listed} is {says} {after} put =
+            let both : after ≡ wordsOf (ruled r base memory request .answer) (piecesOf (ruled r base memory request .list)) =
+                put .put ∙ rw (is .words, is .result) (put-words (piecesOf (ruled r base memory request .list)) (ruled r base memory request .answer)) in
+            rw (← answered-last r base memory request is-first passed is-second passed′ is-third so refl)
+            (record { result = put .result; words = both })
+
+-- an answer and its list are read back from the words
+padded-length : (m : ℕ) (l : List Piece) → length (padded m l) ≡ m
+padded-length zero l = refl
+padded-length (suc m) [] = ap suc (padded-length m [])
+padded-length (suc m) (p ∷ l) = ap suc (padded-length m l)
+
+Shaped : Answer → Pieces → Type 0
+Shaped (Refused n) l = (n ≡ 0 → ⊥) × (l ≡ none)
+Shaped (Is outcome) l = length (l .piece) ≡ 4
+
+module _ (r : Registers) (base : ℕ) (memory : List ℕ) (request : Request) where
+  shaped : Shaped (lookedUp r base memory request .answer) (lookedUp r base memory request .list)
+  unfolding Shaped lookedUp piecesOf
+  shaped = go (refusal1 r) (refusal2 (extentOf base memory)) (refusal3 request)
+    where
+      chosen : Bool → Bool → Bool → Looked
+      chosen a b c =
+          if a then refusedWith 1
+          else if b then refusedWith 2
+          else if c then refusedWith 3
+          else answered (ruled r base memory request)
+
+      go : (a b c : Bool) → Shaped (chosen a b c .answer) (chosen a b c .list)
+      go true b c = (λ no. omega arith, refl)
+      go false true c = (λ no. omega arith, refl)
+      go false false true = (λ no. omega arith, refl)
+      go false false false = padded-length 4 (ruled r base memory request .list)
+
+  module _ {number : ℕ} {after : List ℕ} (is : LooksInto (lookedUp r base memory request) (replicate 18 0) number after) {list : Pieces}
+      (read : list ≡ listOf after) where
+    pub looked-is :
+        number ≡ 0 → {outcome : Outcome} → outcome ≡ outcomeOf after
+        → record { answer = Is outcome; list = list } ≡ lookedUp r base memory request
+    unfolding Shaped numberSays wordsPut
+    looked-is zero-is {outcome} told = go (lookedUp r base memory request .answer) (lookedUp r base memory request .list) refl shaped is
+      where
+        go :
+            (a : Answer) (l : Pieces) → record { answer = a; list = l } ≡ lookedUp r base memory request → Shaped a l
+            → LooksInto (record { answer = a; list = l }) (replicate 18 0) number after → record { answer = Is outcome; list = list } ≡ lookedUp r base memory request
+        go (Refused n) l same shape into = absurd (shape .0 (sym (into .result) ∙ zero-is))
+        go (Is o) l same shape into =
+            rw (told, read, into .words, outcome-back o l, list-back o l shape) same
+
+    pub looked-refused :
+        (number ≡ 0 → ⊥) → record { answer = Refused number; list = list } ≡ lookedUp r base memory request
+    unfolding Shaped numberSays wordsPut listOf none
+    looked-refused some = go (lookedUp r base memory request .answer) (lookedUp r base memory request .list) refl shaped is
+      where
+        go :
+            (a : Answer) (l : Pieces) → record { answer = a; list = l } ≡ lookedUp r base memory request → Shaped a l
+            → LooksInto (record { answer = a; list = l }) (replicate 18 0) number after → record { answer = Refused number; list = list } ≡ lookedUp r base memory request
+        go (Refused n) l same shape into = rw (read, into .words, into .result, ← shape .1) same
+        go (Is o) l same shape into = absurd (some (into .result))

@@ -4,6 +4,7 @@
 --     fromSte, fromEntry, fromCd    how it goes on from where the STE is, from what it says, from where the CD is
 -- Assumes: nothing.
 use Prim.Native.Nat.{ℕ, _^_}
+use mathlib.Core.Path.{_≡_}
 use mathlib.Core.List.{List}
 use Rattle.bit_fields.specs.Choice.{if_then_else_}
 use Rattle.ids.specs.Ids.{refusal3}
@@ -15,10 +16,11 @@ use Rattle.memory_image.specs.Extent.{extentOf, refusal2}
 use Rattle.memory_image.specs.Words.{bytes}
 use Rattle.memory_image.specs.Rule.{Rule, done, fetch, Ran, run, andThen}
 use Rattle.answers.specs.Outcome.{fSteFetch, fCdFetch}
-use Rattle.answers.specs.Pieces.{none, piecesOf, runOn}
+use Rattle.answers.specs.Pieces.{none, piecesOf, runOn, onlyList}
 use Rattle.answers.specs.declared.Outcome.{Outcome}
 use Rattle.answers.specs.declared.Outcome.the-variants.{Abort}
 use Rattle.answers.specs.declared.Pieces.{Pieces}
+use Rattle.answer_words.specs.AnswerWords.{wordsOf}
 use Rattle.stream_table.specs.StreamTable.{streamRule}
 use Rattle.stream_table.specs.declared.Found.{Found}
 use Rattle.stream_table.specs.declared.Found.the-variants as stream
@@ -30,6 +32,7 @@ use Rattle.context_table.specs.declared.Found.{Found as CdFound}
 use Rattle.context_table.specs.declared.Found.the-variants as context
 use Rattle.context_entry.specs.ContextEntry.{cdRule}
 use Rattle.lookup.specs.declared.Looked.{Looked}
+use Rattle.lookup.specs.declared.Answer.{Answer}
 use Rattle.lookup.specs.declared.Answer.the-variants.{Refused, Is}
 
 -- the CD is 64 bytes; a fetch that fails is F_CD_FETCH
@@ -76,3 +79,21 @@ lookedUp r base memory request =
     else if refusal2 (extentOf base memory) then refusedWith 2
     else if refusal3 request then refusedWith 3
     else answered (ruled r base memory request)
+
+-- an outcome, and words with its list and zeros
+pub record AnswersIn (ran : Ran Outcome) (r : Outcome) (after : List ℕ) : Type 0 where
+  pub result : r ≡ ran .answer
+  pub words : after ≡ onlyList (piecesOf (ran .list))
+
+-- a lookup into words: 0 and the answer's words, or a refusal's number and the words as they were
+unfoldable pub numberSays : Answer → ℕ
+numberSays (Refused n) = n
+numberSays (Is outcome) = 0
+
+unfoldable pub wordsPut : Answer → Pieces → List ℕ → List ℕ
+wordsPut (Refused n) l before = before
+wordsPut (Is outcome) l before = wordsOf outcome l
+
+pub record LooksInto (looked : Looked) (before : List ℕ) (says : ℕ) (after : List ℕ) : Type 0 where
+  pub result : says ≡ numberSays (looked .answer)
+  pub words : after ≡ wordsPut (looked .answer) (looked .list) before

@@ -1,7 +1,7 @@
 // The whole lookup, and the STE that a request reaches. Start at `lookup`.
 // Meets specs/Lookup.antt and specs/Part.antt. What it reads it reads through `memory_image::fetch`.
 ghost use mathlib.Core.Path.{_≡_};
-ghost use Rattle.lookup.specs.Lookup.{lookedUp, refusedWith};
+ghost use Rattle.lookup.specs.Lookup.{LooksInto, lookedUp};
 ghost use Rattle.lookup.specs.Part.{SteHanded, steAt};
 use answers::Outcome;
 use answers::Pieces;
@@ -10,7 +10,7 @@ use memory_image::Fetched;
 use registers::Registers;
 
 pub mod part;
-mod walk;
+mod walk_in;
 
 // A refusal's number, or the answer.
 pub enum Answer {
@@ -24,32 +24,48 @@ pub struct Looked {
     pub list: Pieces,
 }
 
-// A refusal carries its number and nothing else.
-fn refuse(number: u64) -> Looked
-    ensures { λ r. ⌜ r ≡ refusedWith number ⌝ }
+// What a stream gets, by the registers and the tables in memory: a refusal (1, 2 or 3, the first that
+// applies), or the answer of document 01 with its list.
+pub fn lookup(registers: Registers, base: u64, memory: &[u8], request: Request) -> Looked
+    ensures { λ r. ⌜ r ≡ lookedUp registers base (now (memory .entry)) request ⌝ }
 {
-    let list = Pieces::none();
+    let mut words = [0u64; 18];
+    let number = look_into(registers, base, memory, request, &mut words);
+    let list = answer_words::list_of(words);
+    if number == 0 {
+        let outcome = answer_words::outcome_of(words);
+        return Looked {
+            answer: Answer::Is(outcome),
+            list,
+        };
+    }
     Looked {
         answer: Answer::Refused(number),
         list,
     }
 }
 
-// What a stream gets, by the registers and the tables in memory: a refusal (1, 2 or 3, the first that
-// applies), or the answer of document 01 with its list.
-pub fn lookup(registers: Registers, base: u64, memory: &[u8], request: Request) -> Looked
-    ensures { λ r. ⌜ r ≡ lookedUp registers base (now (memory .entry)) request ⌝ }
+// The same into an answer's words: 0, or a refusal's number; a refused lookup leaves every word.
+pub fn look_into(
+    registers: Registers,
+    base: u64,
+    memory: &[u8],
+    request: Request,
+    words: &mut [u64; 18],
+) -> u64
+    ensures { λ r. ⌜ LooksInto (lookedUp registers base (now (memory .entry)) request) (now (words .entry)) r (now (words .exit)) ⌝ }
 {
     if registers.refused() {
-        return refuse(1);
+        return 1;
     }
     if memory_image::refused(base, memory.len() as u64) {
-        return refuse(2);
+        return 2;
     }
     if request.refused() {
-        return refuse(3);
+        return 3;
     }
-    walk::from_stream(registers, base, memory, request)
+    let outcome = walk_in::from_stream(registers, base, memory, request, &mut *words);
+    answer_words::put_outcome(words, outcome, 0)
 }
 
 // The 64 bytes of the STE that a request reaches, as that very part of the memory; empty where none is

@@ -3,4 +3,5 @@ pub mod ExtentLaws
 pub mod WordsLaws
 pub mod DescriptorLaws
 pub mod RunLaws
+pub mod BelowLaws
 pub mod Claims

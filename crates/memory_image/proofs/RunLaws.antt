@@ -1,6 +1,7 @@
 -- What holds of every rule that reads descriptors: proved once, for every tree.
 --     run-done, run-had, run-fault   a step of a run; a fetch that fails is not in the list
 --     run-lies      each listed piece lies in the memory and ends at or below the limit
+--     words-agree   a descriptor's words are those of any memory that agrees on its bytes
 --     depends       two memories that agree on the listed bytes give the same answer and list
 --     run-then      what one rule and then another gives, and lists
 --     run-few       a rule of at most n fetches lists at most n pieces
@@ -99,7 +100,7 @@ module _ {A : Type 0} (e : Extent) (limit : ℕ) (f : ℕ → ℕ) where
       go false test on out = rw (run-fault address n fault rest test) out
 
 -- the words of a descriptor are those of any memory that agrees on its piece
-words-agree :
+pub words-agree :
     (e : Extent) (f g : ℕ → ℕ) (address n : ℕ) → e .base ≤ address → Agree e f g (piece address n)
     → wordsAt f (address - e .base) n ≡ wordsAt g (address - e .base) n
 words-agree e f g address n from agree = fun-ext (λ k. go k (ltb k n) refl)

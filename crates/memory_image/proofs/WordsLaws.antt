@@ -1,17 +1,18 @@
 -- Words of a lent memory.
---     word-past, word-in, word-read      where the word does not lie in the memory, and where it does
+--     word-in                            the word at an offset, where it lies in the memory
+--     of-none, of-past, of-read, of-some a word of a descriptor: none such; not in the memory; as it is read; by its offset
 --     word-agree                         two memories with the same eight bytes have the same word there
 -- Assumes: nothing.
-use Prim.Native.Nat.{ℕ, _+_, _-_, _≤_, _<_}
+use Prim.Native.Nat.{ℕ, _+_, _*_, _≤_, _<_}
 use native.Mathlib.Omega.{arith}
-use mathlib.Core.Path.{_≡_}
+use mathlib.Core.Path.{_≡_, sym, _∙_}
 use mathlib.Core.List.{List}
-use borrow.Author.Tests.{le-leb, lt-leb}
+use borrow.Author.Tests.{le-leb, lt-leb, lt-ltb, le-ltb}
 use lib.ListN.{length}
-use Rattle.memory_image.specs.Words.{bytes, word, wordIn}
+use Rattle.memory_image.specs.Words.{bytes, word, wordIn, wordOf}
 
 module _ (memory : List ℕ) (offset : ℕ) where
-  pub word-past : length memory < offset + 8 → 0 ≡ wordIn memory offset
+  word-past : length memory < offset + 8 → 0 ≡ wordIn memory offset
   unfolding wordIn
   word-past past = simp (lt-leb _ _ past)
 
@@ -19,8 +20,20 @@ module _ (memory : List ℕ) (offset : ℕ) where
   unfolding wordIn
   word-in fits = simp (le-leb _ _ fits)
 
-  pub word-read : {r : ℕ} → offset ≤ length memory - 8 → 8 ≤ length memory → r ≡ word (bytes memory) offset → r ≡ wordIn memory offset
-  word-read fits long is = rw (word-in (omega arith)) is
+module _ (memory : List ℕ) (place k : ℕ) where
+  pub of-none : 8 ≤ k → 0 ≡ wordOf memory place k
+  unfolding wordOf
+  of-none past = simp (le-ltb _ _ past)
+
+  pub of-some : k < 8 → wordIn memory (place + 8 * k) ≡ wordOf memory place k
+  unfolding wordOf
+  of-some few = simp (lt-ltb _ _ few)
+
+  pub of-past : k < 8 → length memory < place + 8 * k + 8 → 0 ≡ wordOf memory place k
+  of-past few past = word-past memory (place + 8 * k) past ∙ of-some few
+
+  pub of-read : k < 8 → place + 8 * k + 8 ≤ length memory → {r : ℕ} → r ≡ word (bytes memory) (place + 8 * k) → r ≡ wordOf memory place k
+  of-read few fits is = is ∙ sym (word-in memory (place + 8 * k) fits) ∙ of-some few
 
 pub word-agree :
     (f g : ℕ → ℕ) (from to x : ℕ) → ((i : ℕ) → from ≤ i → i < to → f i ≡ g i) → from ≤ x → x + 8 ≤ to → word f x ≡ word g x

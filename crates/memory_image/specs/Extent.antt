@@ -2,6 +2,7 @@
 -- (01, "What the monitor hands over", "When the bench says no", "From StreamID to STE").
 --     memoryMost, addressTop   the limits
 --     refusal2                 a base and a length that are refused with 2
+--     endOf, below             where an extent ends; what of a memory lies below the limit
 --     fetched                  whether the bytes at an address are fetched
 --     fetchRule                what a fetch answers: their offset in the memory, or nothing
 -- Ours: an address is never cut off at the OAS, so a fetch that ends above it fails.
@@ -10,7 +11,7 @@ use Prim.Native.Nat.{ℕ, _+_, _-_, _%_, _^_}
 use mathlib.Core.Bool.{Bool, not, _&&_, _||_}
 use mathlib.Core.List.{List}
 use lib.Dec.{eqb, leb, ltb}
-use lib.ListN.{length}
+use lib.ListN.{length, take}
 use Rattle.bit_fields.specs.Choice.{if_then_else_}
 use Rattle.memory_image.specs.declared.Fetched.{Fetched}
 use Rattle.memory_image.specs.declared.Fetched.the-variants.{At, Outside}
@@ -22,6 +23,14 @@ pub record Extent : Type 0 where
 -- a base and a lent run of bytes
 abbrev pub extentOf : ℕ → List ℕ → Extent
 extentOf base memory = record { base = base; length = length memory }
+
+-- where it ends
+abbrev pub endOf : Extent → ℕ
+endOf e = e .base + e .length
+
+-- the bytes of a memory at a base that lie below the limit
+unfoldable pub below : ℕ → ℕ → List ℕ → List ℕ
+below base limit memory = take (limit - base) memory
 
 -- the most bytes that are lent
 abbrev pub memoryMost : ℕ

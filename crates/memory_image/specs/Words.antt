@@ -2,11 +2,11 @@
 --     bytes     the bytes of a lent memory, by their offset
 --     word      the word of eight bytes from an offset on
 --     wordIn    the same in a lent memory, and 0 where it does not lie wholly in it
---     twoWords  a descriptor by its first two words
+--     wordOf    a word of a descriptor, by the descriptor's place in the memory
 -- Assumes: nothing.
-use Prim.Native.Nat.{ℕ, zero, suc, _+_, _*_, _^_}
+use Prim.Native.Nat.{ℕ, _+_, _*_, _^_}
 use mathlib.Core.List.{List}
-use lib.Dec.{leb}
+use lib.Dec.{leb, ltb}
 use lib.ListN.{getD, length}
 use Rattle.bit_fields.specs.Choice.{if_then_else_}
 
@@ -26,7 +26,12 @@ wordIn memory offset =
     if leb (offset + 8) (length memory) then word (bytes memory) offset
     else 0
 
-abbrev pub twoWords : ℕ → ℕ → ℕ → ℕ
-twoWords first second zero = first
-twoWords first second (suc zero) = second
-twoWords first second (suc (suc k)) = 0
+-- no descriptor has more words
+abbrev pub wordsMost : ℕ
+wordsMost = 8
+
+-- word k of the descriptor at a place; 0 past the most that one has
+unfoldable pub wordOf : List ℕ → ℕ → ℕ → ℕ
+wordOf memory place k =
+    if ltb k wordsMost then wordIn memory (place + 8 * k)
+    else 0

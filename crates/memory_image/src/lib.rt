@@ -4,14 +4,17 @@
 ghost use mathlib.Core.Path.{_≡_};
 ghost use Prim.Native.Nat.{_+_, _≤_};
 ghost use lib.ListN.{length};
-ghost use Rattle.memory_image.specs.Extent.{extentOf, fetchRule, refusal2};
-ghost use Rattle.memory_image.specs.Words.{bytes, joined, word, wordIn};
+ghost use Rattle.memory_image.specs.Extent.{below, endOf, extentOf, fetchRule, refusal2};
+ghost use Rattle.memory_image.specs.Words.{bytes, joined, word, wordOf};
 
 // The most bytes that are lent.
 pub const MEMORY_MOST: u64 = 65536;
 
 // No address reaches this.
 pub const ADDRESS_TOP: u64 = 1 << 52;
+
+// No descriptor has more words.
+const WORDS_MOST: usize = 8;
 
 // A descriptor that was fetched.
 pub struct Piece {
@@ -38,10 +41,25 @@ pub fn refused(base: u64, length: u64) -> bool
     ADDRESS_TOP - length < base
 }
 
-// Where a descriptor of so many bytes at an address lies, if it lies wholly in the memory and ends at
-// or below the limit. It computes no sum, so nothing can overflow.
-pub fn fetch(base: u64, memory: &[u8], limit: u64, address: u64, size: u64) -> Fetched
-    ensures { λ r. ⌜ r ≡ fetchRule (extentOf base (now (memory .entry))) limit address size ⌝ }
+// The bytes of a memory at a base that lie below the limit: no descriptor that ends above it is among them.
+pub fn below<'a>(base: u64, memory: &'a [u8], limit: u64) -> &'a [u8]
+    ensures { λ r. ⌜ now r ≡ below base limit (now (memory .entry)) ⌝ }
+{
+    if limit < base {
+        return &memory[0..0];
+    }
+    let room = limit - base;
+    if memory.len() as u64 <= room {
+        return memory;
+    }
+    let end = room as usize;
+    &memory[0..end]
+}
+
+// Where a descriptor of so many bytes at an address lies, if it lies wholly in the memory. It computes no sum, so
+// nothing can overflow.
+pub fn fetch(base: u64, memory: &[u8], address: u64, size: u64) -> Fetched
+    ensures { λ r. ⌜ r ≡ fetchRule (extentOf base (now (memory .entry))) (endOf (extentOf base (now (memory .entry)))) address size ⌝ }
 {
     let len = memory.len() as u64;
     if address < base {
@@ -53,27 +71,27 @@ pub fn fetch(base: u64, memory: &[u8], limit: u64, address: u64, size: u64) -> F
     if len - size < address - base {
         return Fetched::Outside;
     }
-    if limit < size {
-        return Fetched::Outside;
-    }
-    if limit - size < address {
-        return Fetched::Outside;
-    }
     let place = address - base;
     Fetched::At(place as usize)
 }
 
-// The word at an offset, and 0 where it does not lie wholly in the memory.
-pub fn word_at(memory: &[u8], offset: usize) -> u64
-    ensures { λ r. ⌜ r ≡ wordIn (now (memory .entry)) offset ⌝ }
+// Word k of the descriptor at a place; 0 where it does not lie wholly in the memory, or a descriptor has none
+// such. It asks nothing of its caller.
+pub fn word_of(memory: &[u8], place: usize, k: usize) -> u64
+    ensures { λ r. ⌜ r ≡ wordOf (now (memory .entry)) place k ⌝ }
 {
-    if memory.len() < 8 {
+    if WORDS_MOST <= k {
         return 0;
     }
-    if memory.len() - 8 < offset {
+    let end = 8 * k + 8;
+    if memory.len() < end {
         return 0;
     }
-    eight(memory, offset)
+    if memory.len() - end < place {
+        return 0;
+    }
+    let at = place + 8 * k;
+    eight(memory, at)
 }
 
 // Eight bytes, the lowest first, as one number.

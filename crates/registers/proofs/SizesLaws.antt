@@ -1,10 +1,10 @@
 -- Sizes, and refusal 1 by its clauses.
---     size-none, size-listed      a code past the list, and one in it
+--     size-none, size-packed      a code past the list, and one in it: a byte of a word that has them all
 --     size-at-most, oas-at-most   no size is above 52, nor is this SMMU's
 --     refused-oas, refused-sid, refused-ssid    which clause refuses; the last decides
 --     accepted                    what registers that are not refused have
 -- Assumes: nothing.
-use Prim.Native.Nat.{ℕ, _≤_, _<_}
+use Prim.Native.Nat.{ℕ, zero, suc, _*_, _≤_, _<_}
 use native.Mathlib.Omega.{arith}
 use mathlib.Core.Path.{_≡_, refl, sym}
 use mathlib.Core.Bool.{Bool, true, false, _||_}
@@ -13,6 +13,7 @@ use lib.Dec.{eqb, leb, ltb}
 use lib.ListN.{getD, List·getD-eq-default}
 use Rattle.number_laws.proofs.Tests.{not-both}
 use Rattle.number_laws.proofs.Tables.{at-each}
+use Rattle.bit_fields.specs.Bits.{field}
 use Rattle.registers.specs.Fields.{oas, sidSize, ssidSize}
 use Rattle.registers.specs.Sizes.{sizes, sizeOf, oasSize, refusal1}
 use Rattle.registers.specs.declared.Registers.{Registers}
@@ -22,13 +23,23 @@ module _ (code : ℕ) where
   unfolding sizeOf
   size-none past = sym (List·getD-eq-default sizes 0 past)
 
-  pub size-listed : getD sizes code 0 ≡ sizeOf code
-  unfolding sizeOf
-  size-listed = refl
-
   pub size-at-most : sizeOf code ≤ 52
   unfolding sizeOf
   size-at-most = leb-true (getD sizes code 0) 52 (at-each (λ n. leb n 52) sizes code 0 refl refl)
+
+byte-of : (code : ℕ) → code < 7 → field 14689665032922144 (8 * code) 8 ≡ sizeOf code
+unfolding sizeOf
+byte-of zero small = refl
+byte-of (suc zero) small = refl
+byte-of (suc (suc zero)) small = refl
+byte-of (suc (suc (suc zero))) small = refl
+byte-of (suc (suc (suc (suc zero)))) small = refl
+byte-of (suc (suc (suc (suc (suc zero))))) small = refl
+byte-of (suc (suc (suc (suc (suc (suc zero)))))) small = refl
+byte-of (suc (suc (suc (suc (suc (suc (suc code))))))) small = absurd (omega arith)
+
+pub size-packed : (code : ℕ) → code < 7 → {byte : ℕ} → byte ≡ field 14689665032922144 (8 * code) 8 → byte ≡ sizeOf code
+size-packed code small is = rw is (byte-of code small)
 
 module _ (r : Registers) where
   pub size-of-oas : {code size : ℕ} → code ≡ oas r → size ≡ sizeOf code → size ≡ oasSize r

@@ -21,8 +21,8 @@ pub struct Registers {
     pub strtab_base_cfg: u32,
 }
 
-// What the codes 0 to 6 of OAS mean, in bits.
-const SIZES: [u64; 7] = [32, 36, 40, 42, 44, 48, 52];
+// What the codes 0 to 6 of OAS mean, in bits: a byte each, the lowest first.
+const SIZES: u64 = 0x34302C2A282420;
 
 // The size in bits of the addresses that a code of OAS means; 0 for a code that means none.
 pub fn size_of(code: u64) -> u64
@@ -31,8 +31,7 @@ pub fn size_of(code: u64) -> u64
     if 7 <= code {
         return 0;
     }
-    let place = code as usize;
-    SIZES[place]
+    bit_fields::field(SIZES, 8 * code, 8)
 }
 
 impl Registers {

@@ -2,7 +2,6 @@
 --     missing-first, missing-second           step 3: the stage that isn't there
 --     bypass-without, bypass-with             step 5
 --     ste-invalid, ste-quiet, ste-missing, ste-stage2, ste-bypass, ste-stage1    the steps in order
---     ste-two       the first two words say it all
 --     ste-proper    where it ends, it ends with a proper outcome
 -- Assumes: nothing.
 use Prim.Native.Nat.{ℕ, _≤_, _<_}
@@ -11,17 +10,16 @@ use mathlib.Core.Bool.{Bool, true, false, _&&_}
 use borrow.Author.Tests.{eq-eqb, ne-eqb, lt-ltb, le-ltb}
 use lib.Dec.{eqb, ltb}
 use Rattle.bit_fields.specs.Bits.{bits}
-use Rattle.bit_fields.specs.Choice.{if_then_else_}
+use Rattle.bit_fields.proofs.ChoiceLaws.{either}
 use Rattle.ids.specs.declared.Substream.{Substream}
 use Rattle.ids.specs.declared.Substream.the-variants.{Without, With}
 use Rattle.ids.specs.declared.SubstreamId.{SubstreamId}
-use Rattle.memory_image.specs.Words.{twoWords}
 use Rattle.registers.specs.Fields.{s1p, s2p}
 use Rattle.registers.specs.declared.Registers.{Registers}
 use Rattle.answers.specs.Proper.{listedEvent, listedCase, properOutcome}
 use Rattle.answers.specs.declared.Outcome.{Outcome}
 use Rattle.answers.specs.declared.Outcome.the-variants.{Abort, Quiet, Bypass, Unserved}
-use Rattle.stream_entry.specs.StreamEntry.{v, config, stage2In, notThere, bypassRule, badStage1, withId, without, stage1Rule, steRule}
+use Rattle.stream_entry.specs.StreamEntry.{v, config, stage2In, notThere, bypassRule, stage1Rule, steRule}
 use Rattle.stream_entry.specs.declared.Entry.{Entry}
 use Rattle.stream_entry.specs.declared.Entry.the-variants.{Ended, Stage1}
 use Rattle.stream_entry.proofs.Stage1Laws.{EndsProper, stage-proper}
@@ -82,13 +80,6 @@ module _ (r : Registers) (substream : Substream) (address : ℕ) (w : ℕ → �
               (simp
               (← is-v, ne-eqb _ _ set, ← is-config, le-ltb _ _ high, ← is-missing, there, ← is-second, ne-eqb _ _ alone, ne-eqb _ _ five))
 
-pub ste-two :
-    (r : Registers) (substream : Substream) (address : ℕ) (w : ℕ → ℕ)
-    → steRule r substream address w ≡ steRule r substream address (twoWords (w 0) (w 1))
-unfolding steRule stage1Rule badStage1 withId without
-ste-two r Without address w = refl
-ste-two r (With id) address w = refl
-
 bypass-proper : (substream : Substream) (address : ℕ) → properOutcome (bypassRule substream address) ≡ true
 unfolding properOutcome listedEvent
 bypass-proper Without address = refl
@@ -97,20 +88,8 @@ bypass-proper (With id) address = refl
 pub ste-proper : (r : Registers) (substream : Substream) (address : ℕ) (w : ℕ → ℕ) → EndsProper (steRule r substream address w)
 unfolding steRule properOutcome listedEvent listedCase
 ste-proper r substream address w =
-    go (eqb (v w) 0) (ltb (config w) 4) (notThere r (config w)) (stage2In (config w)) (eqb (config w) 4)
-  where
-    go :
-        (a b c d e : Bool)
-        → EndsProper
-        (if a then Ended (Abort 4)
-        else if b then Ended Quiet
-        else if c then Ended (Abort 4)
-        else if d then Ended (Unserved 20)
-        else if e then Ended (bypassRule substream address)
-        else stage1Rule r substream address w)
-    go true b c d e = refl
-    go false true c d e = refl
-    go false false true d e = refl
-    go false false false true e = refl
-    go false false false false true = bypass-proper substream address
-    go false false false false false = stage-proper r substream address w
+    either EndsProper (eqb (v w) 0) refl
+    (either EndsProper (ltb (config w) 4) refl
+    (either EndsProper (notThere r (config w)) refl
+    (either EndsProper (stage2In (config w)) refl
+    (either EndsProper (eqb (config w) 4) (bypass-proper substream address) (stage-proper r substream address w)))))

@@ -12,8 +12,8 @@ use mathlib.Core.Bool.{Bool, true, false, not, _&&_, _||_}
 use borrow.Author.Tests.{eq-eqb, ne-eqb, lt-ltb, le-ltb, le-leb, lt-leb, ltb-true, ltb-false, not-true, not-false}
 use lib.Dec.{eqb, leb, ltb}
 use lib.Pow.{pow-mono}
-use Rattle.bit_fields.specs.Bits.{field, inBits}
-use Rattle.bit_fields.specs.Choice.{if_then_else_}
+use Rattle.bit_fields.specs.Bits.{inBits}
+use Rattle.bit_fields.proofs.ChoiceLaws.{either}
 use Rattle.ids.specs.declared.Substream.{Substream}
 use Rattle.ids.specs.declared.Substream.the-variants.{Without, With}
 use Rattle.ids.specs.declared.SubstreamId.{SubstreamId}
@@ -21,7 +21,7 @@ use Rattle.registers.specs.Fields.{hyp, cd2l, ssidSize}
 use Rattle.registers.specs.declared.Registers.{Registers}
 use Rattle.answers.specs.Proper.{listedEvent, listedCase, properOutcome}
 use Rattle.answers.specs.declared.Outcome.the-variants.{Abort, Bypass, Unserved}
-use Rattle.stream_entry.specs.StreamEntry.{s1Fmt, s1CdMax, s1Dss, strw, badStage1, withId, without, substreamRule, stage1Rule}
+use Rattle.stream_entry.specs.StreamEntry.{s1Fmt, s1CdMax, s1Dss, strw, badStage1, withId, withoutId, substreamRule, stage1Rule}
 use Rattle.stream_entry.specs.declared.Entry.{Entry}
 use Rattle.stream_entry.specs.declared.Entry.the-variants.{Ended, Stage1}
 
@@ -58,8 +58,8 @@ module _ (r : Registers) (w : ℕ → ℕ) {max size : ℕ} (is-max : max ≡ s1
             (← is-max, ← is-size, le-ltb _ _ fits, lt-ltb _ _ more, ← is-format, ne-eqb _ _ known, ← is-levels, ← tested, is-not, ← is-dss)
 
 -- S1CDMax has five bits, so an index below 2^S1CDMax has 31
-pub with-narrow : (word n : ℕ) {max : ℕ} {fits : Bool} → max ≡ field word 59 5 → fits ≡ inBits n max → not fits ≡ false → n < 2 ^ 32
-with-narrow word n {max} {fits} is test inside =
+pub with-narrow : (w : ℕ → ℕ) (n : ℕ) {max : ℕ} {fits : Bool} → max ≡ s1CdMax w → fits ≡ inBits n max → not fits ≡ false → n < 2 ^ 32
+with-narrow w n {max} {fits} is test inside =
     let most : max ≤ 31 = omega arith in
     let more : 2 ^ max ≤ 2 ^ 31 = pow-mono most in
     let small : n < 2 ^ max = ltb-true n (2 ^ max) (sym test ∙ not-false fits inside) in
@@ -91,21 +91,21 @@ module _ (w : ℕ → ℕ) (n : ℕ) {max : ℕ} (is-max : max ≡ s1CdMax w) wh
       with-cd is-not = simp (← is-max, ne-eqb _ _ some, lt-leb _ _ small, ← is-dss, ← tested, is-not)
 
 module _ (w : ℕ → ℕ) (address : ℕ) {max : ℕ} (is-max : max ≡ s1CdMax w) where
-  pub without-alone : max ≡ 0 → Stage1 0 ≡ without w address
-  unfolding without
+  pub without-alone : max ≡ 0 → Stage1 0 ≡ withoutId w address
+  unfolding withoutId
   without-alone none = simp (← is-max, eq-eqb _ _ none)
 
   module _ (some : max ≡ 0 → ⊥) {dss : ℕ} (is-dss : dss ≡ s1Dss w) where
-    pub without-disabled : dss ≡ 0 → Ended (Abort 6) ≡ without w address
-    unfolding without
+    pub without-disabled : dss ≡ 0 → Ended (Abort 6) ≡ withoutId w address
+    unfolding withoutId
     without-disabled zero = simp (← is-max, ne-eqb _ _ some, ← is-dss, zero)
 
-    pub without-bypass : dss ≡ 1 → Ended (Bypass address) ≡ without w address
-    unfolding without
+    pub without-bypass : dss ≡ 1 → Ended (Bypass address) ≡ withoutId w address
+    unfolding withoutId
     without-bypass one = simp (← is-max, ne-eqb _ _ some, ← is-dss, one)
 
-    pub without-cd : (dss ≡ 0 → ⊥) → (dss ≡ 1 → ⊥) → Stage1 0 ≡ without w address
-    unfolding without
+    pub without-cd : (dss ≡ 0 → ⊥) → (dss ≡ 1 → ⊥) → Stage1 0 ≡ withoutId w address
+    unfolding withoutId
     without-cd not-zero not-one = simp (← is-max, ne-eqb _ _ some, ← is-dss, ne-eqb _ _ not-zero, ne-eqb _ _ not-one)
 
 module _ (r : Registers) (substream : Substream) (address : ℕ) (w : ℕ → ℕ) {bad : Bool} (is-bad : bad ≡ badStage1 r w) where
@@ -120,7 +120,7 @@ module _ (r : Registers) (substream : Substream) (address : ℕ) (w : ℕ → �
     stage-world is-so = simp (← is-bad, good, ← is-hyp, ← is-world, ← tested, is-so)
 
     module _ (served : above ≡ false) {entry : Entry} where
-      pub stage-without : substream ≡ Without → entry ≡ without w address → entry ≡ stage1Rule r substream address w
+      pub stage-without : substream ≡ Without → entry ≡ withoutId w address → entry ≡ stage1Rule r substream address w
       unfolding stage1Rule
       stage-without none is = rw (is, none) (simp (← is-bad, good, ← is-hyp, ← is-world, ← tested, served))
 
@@ -135,24 +135,15 @@ EndsProper (Ended outcome) = properOutcome outcome ≡ true
 
 with-proper : (w : ℕ → ℕ) (n : ℕ) → EndsProper (withId w n)
 unfolding withId properOutcome listedEvent
-with-proper w n = go (eqb (s1CdMax w) 0 || leb (2 ^ s1CdMax w) n) (eqb n 0 && eqb (s1Dss w) 2)
-  where
-    go : (a b : Bool) → EndsProper (if a then Ended (Abort 8) else if b then Ended (Abort 6) else Stage1 n)
-    go true b = refl
-    go false true = refl
-    go false false = tt
+with-proper w n =
+    either EndsProper (eqb (s1CdMax w) 0 || leb (2 ^ s1CdMax w) n) refl
+    (either EndsProper (eqb n 0 && eqb (s1Dss w) 2) refl tt)
 
-without-proper : (w : ℕ → ℕ) (address : ℕ) → EndsProper (without w address)
-unfolding without properOutcome listedEvent
-without-proper w address = go (eqb (s1CdMax w) 0) (eqb (s1Dss w) 0) (eqb (s1Dss w) 1)
-  where
-    go :
-        (a b c : Bool)
-        → EndsProper (if a then Stage1 0 else if b then Ended (Abort 6) else if c then Ended (Bypass address) else Stage1 0)
-    go true b c = tt
-    go false true c = refl
-    go false false true = refl
-    go false false false = tt
+without-proper : (w : ℕ → ℕ) (address : ℕ) → EndsProper (withoutId w address)
+unfolding withoutId properOutcome listedEvent
+without-proper w address =
+    either EndsProper (eqb (s1CdMax w) 0) tt
+    (either EndsProper (eqb (s1Dss w) 0) refl (either EndsProper (eqb (s1Dss w) 1) refl tt))
 
 substream-proper : (w : ℕ → ℕ) (substream : Substream) (address : ℕ) → EndsProper (substreamRule w substream address)
 substream-proper w Without address = without-proper w address
@@ -160,11 +151,6 @@ substream-proper w (With id) address = with-proper w (id .number)
 
 pub stage-proper : (r : Registers) (substream : Substream) (address : ℕ) (w : ℕ → ℕ) → EndsProper (stage1Rule r substream address w)
 unfolding stage1Rule properOutcome listedEvent listedCase
-stage-proper r substream address w = go (badStage1 r w) (eqb (hyp r) 1 && not (eqb (strw w) 0))
-  where
-    go :
-        (a b : Bool)
-        → EndsProper (if a then Ended (Abort 4) else if b then Ended (Unserved 22) else substreamRule w substream address)
-    go true b = refl
-    go false true = refl
-    go false false = substream-proper w substream address
+stage-proper r substream address w =
+    either EndsProper (badStage1 r w) refl
+    (either EndsProper (eqb (hyp r) 1 && not (eqb (strw w) 0)) refl (substream-proper w substream address))

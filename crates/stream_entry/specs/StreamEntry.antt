@@ -2,7 +2,7 @@
 --     steRule          the first rule that applies: start here
 --     v .. strw        the fields, by 003's names
 --     badStage1        step 6
---     withId, without  step 8, with a SubstreamID and without one: how the lookup ends, or the index of its CD
+--     withId, withoutId    step 8, with a SubstreamID and without one: how the lookup ends, or the index of its CD
 -- Ours: Config 100 with a SubstreamID is C_BAD_SUBSTREAMID (5); the checks of step 6 are 01's, and 003 calls S1Fmt 3 and S1DSS 3 "behaves as 0".
 -- Assumes: nothing.
 use Prim.Native.Nat.{ℕ, _*_, _^_}
@@ -73,15 +73,15 @@ withId w n =
     else Stage1 n
 
 -- 8. without one: S1CDMax above 0 and S1DSS 0 gives F_STREAM_DISABLED, 1 bypass, 2 uses CD 0
-unfoldable pub without : (ℕ → ℕ) → ℕ → Entry
-without w address =
+unfoldable pub withoutId : (ℕ → ℕ) → ℕ → Entry
+withoutId w address =
     if eqb (s1CdMax w) 0 then Stage1 0
     else if eqb (s1Dss w) 0 then Ended (Abort fStreamDisabled)
     else if eqb (s1Dss w) 1 then Ended (Bypass address)
     else Stage1 0
 
 abbrev pub substreamRule : (ℕ → ℕ) → Substream → ℕ → Entry
-substreamRule w Without address = without w address
+substreamRule w Without address = withoutId w address
 substreamRule w (With id) address = withId w (id .number)
 
 -- 6 to 8, of a stream with stage 1 alone

@@ -1,14 +1,16 @@
 // What an STE says. Start at `read_ste`.
-// Meets specs/StreamEntry.antt; reads no memory: it is handed the two words that hold the fields.
+// Meets specs/StreamEntry.antt; the STE is handed over as its place in the memory, and its fields are in fields.rt.
 ghost use mathlib.Core.Path.{_≡_};
-ghost use Rattle.memory_image.specs.Words.{twoWords};
-ghost use Rattle.stream_entry.specs.StreamEntry.{badStage1, bypassRule, notThere, stage1Rule, steRule, withId, without};
+ghost use Rattle.memory_image.specs.Words.{wordOf};
+ghost use Rattle.stream_entry.specs.StreamEntry.{badStage1, bypassRule, notThere, stage1Rule, steRule, withId, withoutId};
 use answers::Outcome;
 use bit_fields::both;
 use bit_fields::field;
 use bit_fields::in_bits;
 use ids::Substream;
 use registers::Registers;
+
+pub mod fields;
 
 // How the lookup ends at the STE, or the index of the CD that it goes on to.
 pub enum Entry {
@@ -37,38 +39,38 @@ fn bypass(substream: Substream, address: u64) -> Outcome
 }
 
 // Step 6: fields of stage 1 that are not for this SMMU.
-fn is_bad(registers: Registers, w0: u64, w1: u64) -> bool
-    ensures { λ r. ⌜ r ≡ badStage1 registers (twoWords w0 w1) ⌝ }
+fn bad_stage1(registers: Registers, memory: &[u8], place: usize) -> bool
+    ensures { λ r. ⌜ r ≡ badStage1 registers (wordOf (now (memory .entry)) place) ⌝ }
 {
-    let max = field(w0, 59, 5);
+    let max = fields::s1_cd_max(memory, place);
     if registers.ssid_size() < max {
         return true;
     }
     if max == 0 {
         return false;
     }
-    let format = field(w0, 4, 2);
+    let format = fields::s1_fmt(memory, place);
     if format == 3 {
         return true;
     }
     if both(format != 0, registers.cd2l() == 0) {
         return true;
     }
-    field(w1, 0, 2) == 3
+    fields::s1_dss(memory, place) == 3
 }
 
 // Step 8, with a SubstreamID.
-fn with_id(w0: u64, w1: u64, n: u64) -> Entry
-    ensures { λ r. ⌜ r ≡ withId (twoWords w0 w1) n ⌝ }
+fn with_id(memory: &[u8], place: usize, n: u64) -> Entry
+    ensures { λ r. ⌜ r ≡ withId (wordOf (now (memory .entry)) place) n ⌝ }
 {
-    let max = field(w0, 59, 5);
+    let max = fields::s1_cd_max(memory, place);
     if max == 0 {
         return Entry::Ended(Outcome::Abort(answers::C_BAD_SUBSTREAMID));
     }
     if !in_bits(n, max) {
         return Entry::Ended(Outcome::Abort(answers::C_BAD_SUBSTREAMID));
     }
-    if both(n == 0, field(w1, 0, 2) == 2) {
+    if both(n == 0, fields::s1_dss(memory, place) == 2) {
         return Entry::Ended(Outcome::Abort(answers::F_STREAM_DISABLED));
     }
     let index = n as u32;
@@ -76,13 +78,13 @@ fn with_id(w0: u64, w1: u64, n: u64) -> Entry
 }
 
 // Step 8, without one.
-fn without_id(w0: u64, w1: u64, address: u64) -> Entry
-    ensures { λ r. ⌜ r ≡ without (twoWords w0 w1) address ⌝ }
+fn without_id(memory: &[u8], place: usize, address: u64) -> Entry
+    ensures { λ r. ⌜ r ≡ withoutId (wordOf (now (memory .entry)) place) address ⌝ }
 {
-    if field(w0, 59, 5) == 0 {
+    if fields::s1_cd_max(memory, place) == 0 {
         return Entry::Stage1(0);
     }
-    let dss = field(w1, 0, 2);
+    let dss = fields::s1_dss(memory, place);
     match dss {
         0 => Entry::Ended(Outcome::Abort(answers::F_STREAM_DISABLED)),
         1 => Entry::Ended(Outcome::Bypass(address)),
@@ -91,29 +93,41 @@ fn without_id(w0: u64, w1: u64, address: u64) -> Entry
 }
 
 // Steps 6 to 8: a stream with stage 1 alone.
-fn stage1(registers: Registers, substream: Substream, address: u64, w0: u64, w1: u64) -> Entry
-    ensures { λ r. ⌜ r ≡ stage1Rule registers substream address (twoWords w0 w1) ⌝ }
+fn stage1(
+    registers: Registers,
+    substream: Substream,
+    address: u64,
+    memory: &[u8],
+    place: usize,
+) -> Entry
+    ensures { λ r. ⌜ r ≡ stage1Rule registers substream address (wordOf (now (memory .entry)) place) ⌝ }
 {
-    if is_bad(registers, w0, w1) {
+    if bad_stage1(registers, memory, place) {
         return Entry::Ended(Outcome::Abort(answers::C_BAD_STE));
     }
-    if both(registers.hyp() == 1, field(w1, 30, 2) != 0) {
+    if both(registers.hyp() == 1, fields::strw(memory, place) != 0) {
         return Entry::Ended(Outcome::Unserved(answers::STREAM_WORLD));
     }
     match substream {
-        Substream::Without => without_id(w0, w1, address),
-        Substream::With(id) => with_id(w0, w1, id.number),
+        Substream::Without => without_id(memory, place, address),
+        Substream::With(id) => with_id(memory, place, id.number),
     }
 }
 
-// What the STE at an address says to a request, by the first two of its words.
-pub fn read_ste(registers: Registers, substream: Substream, address: u64, w0: u64, w1: u64) -> Entry
-    ensures { λ r. ⌜ r ≡ steRule registers substream address (twoWords w0 w1) ⌝ }
+// What the STE at an address, and at a place of the memory, says to a request.
+pub fn read_ste(
+    registers: Registers,
+    substream: Substream,
+    address: u64,
+    memory: &[u8],
+    place: usize,
+) -> Entry
+    ensures { λ r. ⌜ r ≡ steRule registers substream address (wordOf (now (memory .entry)) place) ⌝ }
 {
-    if field(w0, 0, 1) == 0 {
+    if fields::v(memory, place) == 0 {
         return Entry::Ended(Outcome::Abort(answers::C_BAD_STE));
     }
-    let config = field(w0, 1, 3);
+    let config = fields::config(memory, place);
     if config < 4 {
         return Entry::Ended(Outcome::Quiet);
     }
@@ -127,5 +141,5 @@ pub fn read_ste(registers: Registers, substream: Substream, address: u64, w0: u6
         let outcome = bypass(substream, address);
         return Entry::Ended(outcome);
     }
-    stage1(registers, substream, address, w0, w1)
+    stage1(registers, substream, address, memory, place)
 }

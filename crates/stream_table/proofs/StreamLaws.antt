@@ -15,83 +15,74 @@ use borrow.Author.Tests.{eq-eqb, ne-eqb, le-leb, lt-leb, ltb-false, ltb-true, no
 use lib.Dec.{eqb, leb, ltb}
 use Rattle.bit_fields.specs.Bits.{low, inBits}
 use Rattle.bit_fields.specs.Choice.{if_then_else_}
+use Rattle.bit_fields.proofs.ChoiceLaws.{either}
 use Rattle.registers.specs.Fields.{smmuEn}
 use Rattle.registers.specs.Fields as fields
 use Rattle.registers.specs.declared.Registers.{Registers}
-use Rattle.memory_image.specs.Extent.{extentOf, fetchRule}
-use Rattle.memory_image.specs.Words.{bytes, wordIn}
+use Rattle.memory_image.specs.Extent.{extentOf, endOf, fetchRule}
+use Rattle.memory_image.specs.Words.{wordOf}
 use Rattle.memory_image.specs.Rule.{Rule, done, Fetches, Every, Gives}
-use Rattle.memory_image.specs.declared.Piece.{Piece}
 use Rattle.memory_image.specs.declared.Fetched.{Fetched}
 use Rattle.memory_image.specs.declared.Fetched.the-variants.{At, Outside}
-use Rattle.answers.specs.Pieces.{pushed, runOn}
+use Rattle.answers.specs.Outcome.{cBadStreamId, fSteFetch}
+use Rattle.answers.specs.Pieces.{pushPiece}
+use Rattle.answers.specs.Walk.{Walks}
 use Rattle.answers.specs.Proper.{listedEvent, properOutcome}
 use Rattle.answers.specs.declared.Outcome.{Outcome}
 use Rattle.answers.specs.declared.Outcome.the-variants.{Abort, Quiet, BypassGlobal}
-use Rattle.answers.specs.declared.Pieces.{Pieces}
-use Rattle.answers.proofs.PiecesLaws.{run-on-done}
-use Rattle.answers.proofs.FetchLaws.{level-fault, level-read}
-use Rattle.stream_table.specs.StreamTable.{switchedOff, log2, linear, linearAt, splitOf, l1stdAt, holds, spanOf, inLeaf, leafRule, twoLevelRule, streamRule, walkedOn}
+use Rattle.answers.proofs.WalkLaws.{walk-done, fault-one, read-one}
+use Rattle.stream_table.specs.StreamTable.{switchedOff, log2, isLinear, linearAt, splitOf, l1stdAt, stesHeld, spanOf, inLeaf, leafRule, twoLevelRule, streamRule}
 use Rattle.stream_table.specs.declared.Found.{Found}
 use Rattle.stream_table.specs.declared.Found.the-variants.{Ste, Ended}
 use Rattle.stream_table.specs.declared.Leaf.{Leaf}
 use Rattle.stream_table.specs.declared.Leaf.the-variants.{Invalid, Holds}
-use Rattle.stream_table.specs.declared.Walked.{Walked}
 
-module _ (base : ℕ) (memory : List ℕ) (limit : ℕ) (r : Registers) (stream : ℕ) (l : Pieces) where
-  -- a rule that is done adds nothing
-  walked-done : (x : Found) → record { found = x; list = l } ≡ walkedOn base memory limit (done x) l
-  unfolding walkedOn
-  walked-done x = rw (run-on-done (extentOf base memory) limit (bytes memory) x l)
+module _ (base : ℕ) (memory : List ℕ) (r : Registers) (stream : ℕ) (ws : List ℕ) where
+  abbrev Goes : Rule Found → Found → List ℕ → Type 0
+  Goes rule = Walks base memory rule ws
 
   module _ (split : ℕ) {address : ℕ} (at : address ≡ l1stdAt r split stream) {said : Fetched}
-      (is : said ≡ fetchRule (extentOf base memory) limit address 8) where
-    pub two-fault : said ≡ Outside → record { found = Ended (Abort 3); list = l } ≡ walkedOn base memory limit (twoLevelRule r split stream) l
-    unfolding walkedOn twoLevelRule
-    two-fault out = rw (← at, level-fault base memory limit address 1 is l _ (λ word. leafRule split word stream) out)
+      (is : said ≡ fetchRule (extentOf base memory) (endOf (extentOf base memory)) address 8) where
+    pub two-fault : said ≡ Outside → Goes (twoLevelRule r split stream) (Ended (Abort fSteFetch)) ws
+    unfolding twoLevelRule
+    two-fault out = rw (← at) (fault-one base memory address 1 is ws (Ended (Abort fSteFetch)) (λ word. leafRule r split word stream) out)
 
     pub two-read :
-        {place word : ℕ} {found : Found} {longer : Pieces} → said ≡ At place → word ≡ wordIn memory place
-        → found ≡ leafRule split word stream → longer ≡ pushed l (record { address = address; length = 8 })
-        → record { found = found; list = longer } ≡ walkedOn base memory limit (twoLevelRule r split stream) l
-    unfolding walkedOn twoLevelRule
-    two-read had read leaf push =
-        rw
-        (← at, level-read base memory limit address 1 is l (Ended (Abort 3)) (λ word. leafRule split word stream) (omega arith) had read push, leaf)
+        {place word : ℕ} {found : Found} {longer : List ℕ} → said ≡ At place
+        → longer ≡ pushPiece ws (record { address = address; length = 8 }) → word ≡ wordOf memory place 0
+        → found ≡ leafRule r split word stream → Goes (twoLevelRule r split stream) found longer
+    unfolding twoLevelRule
+    two-read had push read leaf =
+        rw (← at)
+        (read-one base memory address 1 is ws (Ended (Abort fSteFetch)) (λ word. leafRule r split word stream) (omega arith) had read push leaf)
 
   module _ {on : ℕ} (enabled : on ≡ smmuEn r) where
-    pub find-off :
-        on ≡ 0 → {outcome : Outcome} → outcome ≡ switchedOff r
-        → record { found = Ended outcome; list = l } ≡ walkedOn base memory limit (streamRule r stream) l
+    pub find-off : on ≡ 0 → {outcome : Outcome} → outcome ≡ switchedOff r → Goes (streamRule r stream) (Ended outcome) ws
     unfolding streamRule
-    find-off off is = rw is (simp (← enabled, eq-eqb _ _ off) (walked-done (Ended (switchedOff r))))
+    find-off off is = simp (← enabled, eq-eqb _ _ off) (walk-done base memory (ap Ended is) ws)
 
     module _ (set : on ≡ 0 → ⊥) {size : ℕ} (effective : size ≡ log2 r) {fits : Bool} (test : fits ≡ inBits stream size) where
-      pub find-past :
-          not fits ≡ true → record { found = Ended (Abort 2); list = l } ≡ walkedOn base memory limit (streamRule r stream) l
+      pub find-past : not fits ≡ true → Goes (streamRule r stream) (Ended (Abort cBadStreamId)) ws
       unfolding streamRule
       find-past out =
           let no : ltb stream (2 ^ log2 r) ≡ false = ap (inBits stream) (sym effective) ∙ sym test ∙ not-true fits out in
-          simp (← enabled, ne-eqb _ _ set, le-leb (2 ^ log2 r) stream (ltb-false stream (2 ^ log2 r) no)) (walked-done (Ended (Abort 2)))
+          simp (← enabled, ne-eqb _ _ set, le-leb (2 ^ log2 r) stream (ltb-false stream (2 ^ log2 r) no)) (walk-done base memory refl ws)
 
-      module _ (inside : not fits ≡ false) {is-linear : Bool} (kind : is-linear ≡ linear r) where
+      module _ (inside : not fits ≡ false) {flat : Bool} (kind : flat ≡ isLinear r) where
         to-kind :
             streamRule r stream
-            ≡ (if linear r then done (Ste (linearAt r stream)) else twoLevelRule r (splitOf (fields.split r)) stream)
+            ≡ (if isLinear r then done (Ste (linearAt r stream)) else twoLevelRule r (splitOf (fields.split r)) stream)
         unfolding streamRule
         to-kind =
             let yes : ltb stream (2 ^ log2 r) ≡ true = ap (inBits stream) (sym effective) ∙ sym test ∙ not-false fits inside in
             simp (← enabled, ne-eqb _ _ set, lt-leb (2 ^ log2 r) stream (ltb-true stream (2 ^ log2 r) yes))
 
-        pub find-linear :
-            is-linear ≡ true → {address : ℕ} → address ≡ linearAt r stream
-            → record { found = Ste address; list = l } ≡ walkedOn base memory limit (streamRule r stream) l
-        find-linear flat at = rw (at, to-kind, ← kind, flat) (walked-done (Ste (linearAt r stream)))
+        pub find-linear : flat ≡ true → {address : ℕ} → address ≡ linearAt r stream → Goes (streamRule r stream) (Ste address) ws
+        find-linear so at = rw (to-kind, ← kind, so) (walk-done base memory (ap Ste at) ws)
 
         pub find-two :
-            is-linear ≡ false → {code split : ℕ} {walked : Walked} → code ≡ fields.split r → split ≡ splitOf code
-            → walked ≡ walkedOn base memory limit (twoLevelRule r split stream) l
-            → walked ≡ walkedOn base memory limit (streamRule r stream) l
+            flat ≡ false → {code split : ℕ} {found : Found} {longer : List ℕ} → code ≡ fields.split r → split ≡ splitOf code
+            → Goes (twoLevelRule r split stream) found longer → Goes (streamRule r stream) found longer
         find-two deep is-code is-split walk = rw (to-kind, ← kind, deep, ← is-code, ← is-split) walk
 
 -- where it ends, it ends with a proper outcome
@@ -101,23 +92,15 @@ EndsProper (Ended outcome) = properOutcome outcome ≡ true
 
 off-proper : (r : Registers) → properOutcome (switchedOff r) ≡ true
 unfolding switchedOff properOutcome
-off-proper r = go (eqb (fields.abort r) 1)
-  where
-    go : (a : Bool) → properOutcome (if a then Quiet else BypassGlobal) ≡ true
-    go true = refl
-    go false = refl
+off-proper r = either (λ o. properOutcome o ≡ true) (eqb (fields.abort r) 1) refl refl
 
-leaf-proper : (split l1std stream : ℕ) → EndsProper (leafRule split l1std stream)
+leaf-proper : (r : Registers) (split l1std stream : ℕ) → EndsProper (leafRule r split l1std stream)
 unfolding leafRule properOutcome listedEvent
-leaf-proper split l1std stream = go (holds (spanOf l1std) split)
+leaf-proper r split l1std stream = go (stesHeld (spanOf l1std) split)
   where
-    past : (a : Bool) (x : ℕ) → EndsProper (if a then Ended (Abort 2) else Ste x)
-    past true x = refl
-    past false x = tt
-
     go : (leaf : Leaf) → EndsProper (inLeaf leaf l1std (low stream split))
     go Invalid = refl
-    go (Holds n) = past (leb n (low stream split)) _
+    go (Holds n) = either EndsProper (leb n (low stream split)) refl tt
 
 -- what holds of a rule that is done, with a proper outcome where it ends, and of the two-level one holds of the whole
 module _ (r : Registers) (stream : ℕ) where
@@ -125,19 +108,10 @@ module _ (r : Registers) (stream : ℕ) where
       (Q : Rule Found → Type 0) → ((x : Found) → EndsProper x → Q (done x)) → Q (twoLevelRule r (splitOf (fields.split r)) stream)
       → Q (streamRule r stream)
   unfolding streamRule properOutcome listedEvent
-  stream-cases Q finished deep = go (eqb (smmuEn r) 0) (leb (2 ^ log2 r) stream) (linear r)
-    where
-      go :
-          (a b c : Bool)
-          → Q
-          (if a then done (Ended (switchedOff r))
-          else if b then done (Ended (Abort 2))
-          else if c then done (Ste (linearAt r stream))
-          else twoLevelRule r (splitOf (fields.split r)) stream)
-      go true b c = finished (Ended (switchedOff r)) (off-proper r)
-      go false true c = finished (Ended (Abort 2)) refl
-      go false false true = finished (Ste (linearAt r stream)) tt
-      go false false false = deep
+  stream-cases Q finished deep =
+      either Q (eqb (smmuEn r) 0) (finished (Ended (switchedOff r)) (off-proper r))
+      (either Q (leb (2 ^ log2 r) stream) (finished (Ended (Abort cBadStreamId)) refl)
+      (either Q (isLinear r) (finished (Ste (linearAt r stream)) tt) deep))
 
   pub stream-few : Fetches 1 (streamRule r stream)
   unfolding twoLevelRule
@@ -150,21 +124,14 @@ module _ (r : Registers) (stream : ℕ) where
   pub stream-proper : Gives EndsProper (streamRule r stream)
   unfolding twoLevelRule properOutcome listedEvent
   stream-proper =
-      stream-cases (Gives EndsProper) (λ x proper. proper) (refl, λ w. leaf-proper (splitOf (fields.split r)) (w 0) stream)
+      stream-cases (Gives EndsProper) (λ x proper. proper) (refl, λ w. leaf-proper r (splitOf (fields.split r)) (w 0) stream)
 
-  pub stream-unread :
-      (smmuEn r ≡ 0) ⊎ (2 ^ log2 r ≤ stream) → (outcome : Outcome) × (streamRule r stream ≡ done (Ended outcome))
+  -- it ends without a fetch
+  abbrev Unread : Rule Found → Type 0
+  Unread rule = (outcome : Outcome) × (rule ≡ done (Ended outcome))
+
+  pub stream-unread : (smmuEn r ≡ 0) ⊎ (2 ^ log2 r ≤ stream) → Unread (streamRule r stream)
   unfolding streamRule
   stream-unread (inl off) = (switchedOff r, simp (eq-eqb _ _ off))
-  stream-unread (inr past) = go (eqb (smmuEn r) 0)
-    where
-      go :
-          (a : Bool)
-          → (outcome : Outcome)
-          × ((if a then done (Ended (switchedOff r))
-          else if leb (2 ^ log2 r) stream then done (Ended (Abort 2))
-          else if linear r then done (Ste (linearAt r stream))
-          else twoLevelRule r (splitOf (fields.split r)) stream)
-          ≡ done (Ended outcome))
-      go true = (switchedOff r, refl)
-      go false = (Abort 2, simp (le-leb _ _ past))
+  stream-unread (inr past) =
+      either Unread (eqb (smmuEn r) 0) (switchedOff r, refl) (Abort cBadStreamId, simp (le-leb _ _ past))

@@ -2,32 +2,26 @@
 --     streamRule       the whole of it: start here
 --     switchedOff      step 1
 --     log2             step 2: the effective LOG2SIZE
---     linear, linearAt     step 3
+--     isLinear, linearAt   step 3
 --     splitOf, l1stdAt     step 4
---     holds, leafRule      steps 5 and 6, from an L1STD
+--     stesHeld, leafRule   steps 5 and 6, from an L1STD
 -- The STE itself is fetched by whoever asks where it is.
 -- Assumes: nothing.
-use Prim.Native.Nat.{ℕ, _+_, _-_, _*_, _/_, _%_, _^_, min, max}
+use Prim.Native.Nat.{ℕ, _+_, _-_, _*_, _^_, min, max}
 use mathlib.Core.Bool.{Bool, not, _||_}
-use mathlib.Core.List.{List}
 use lib.Dec.{eqb, leb, ltb}
 use Rattle.bit_fields.specs.Bits.{bits, high, low, alignedDown}
 use Rattle.bit_fields.specs.Choice.{if_then_else_}
 use Rattle.registers.specs.Fields.{smmuEn, abort, log2Size, sidSize, stLevel, fmt, split, addr}
 use Rattle.registers.specs.declared.Registers.{Registers}
-use Rattle.memory_image.specs.Extent.{extentOf}
-use Rattle.memory_image.specs.Words.{bytes}
 use Rattle.memory_image.specs.Rule.{Rule, done, fetch}
 use Rattle.answers.specs.Outcome.{cBadStreamId, fSteFetch}
-use Rattle.answers.specs.Pieces.{runOn}
 use Rattle.answers.specs.declared.Outcome.{Outcome}
 use Rattle.answers.specs.declared.Outcome.the-variants.{Abort, Quiet, BypassGlobal}
-use Rattle.answers.specs.declared.Pieces.{Pieces}
 use Rattle.stream_table.specs.declared.Found.{Found}
 use Rattle.stream_table.specs.declared.Found.the-variants.{Ste, Ended}
 use Rattle.stream_table.specs.declared.Leaf.{Leaf}
 use Rattle.stream_table.specs.declared.Leaf.the-variants.{Invalid, Holds}
-use Rattle.stream_table.specs.declared.Walked.{Walked}
 
 -- 1. SMMUEN 0: ABORT 1 gives a quiet abort, ABORT 0 global bypass
 unfoldable pub switchedOff : Registers → Outcome
@@ -40,8 +34,8 @@ abbrev pub log2 : Registers → ℕ
 log2 r = min (log2Size r) (sidSize r)
 
 -- 3. ST_LEVEL is 0 or FMT isn't 1
-unfoldable pub linear : Registers → Bool
-linear r = eqb (stLevel r) 0 || not (eqb (fmt r) 1)
+unfoldable pub isLinear : Registers → Bool
+isLinear r = eqb (stLevel r) 0 || not (eqb (fmt r) 1)
 
 -- ADDR + 64 x StreamID, with ADDR's bits below LOG2SIZE + 6 taken as 0
 unfoldable pub linearAt : Registers → ℕ → ℕ
@@ -59,8 +53,8 @@ unfoldable pub l1stdAt : Registers → ℕ → ℕ → ℕ
 l1stdAt r leafBits stream = alignedDown (addr r) (max 5 (log2 r + 2 - leafBits) + 1) + 8 * high stream leafBits
 
 -- 5. Span 0 and 12 to 31 are invalid, 1 to 11 hold 2^(Span-1) STEs, and Span above SPLIT + 1 is invalid
-unfoldable pub holds : ℕ → ℕ → Leaf
-holds span leafBits =
+unfoldable pub stesHeld : ℕ → ℕ → Leaf
+stesHeld span leafBits =
     if eqb span 0 then Invalid
     else if ltb 11 span then Invalid
     else if ltb (leafBits + 1) span then Invalid
@@ -80,25 +74,17 @@ inLeaf (Holds n) l1std index =
     if leb n index then Ended (Abort cBadStreamId)
     else Ste (l2Ptr l1std + 64 * index)
 
-unfoldable pub leafRule : ℕ → ℕ → ℕ → Found
-leafRule leafBits l1std stream = inLeaf (holds (spanOf l1std) leafBits) l1std (low stream leafBits)
+unfoldable pub leafRule : Registers → ℕ → ℕ → ℕ → Found
+leafRule r leafBits l1std stream = inLeaf (stesHeld (spanOf l1std) leafBits) l1std (low stream leafBits)
 
 -- a two-level table, split at so many bits
 unfoldable pub twoLevelRule : Registers → ℕ → ℕ → Rule Found
 twoLevelRule r leafBits stream =
-    fetch (l1stdAt r leafBits stream) 1 (done (Ended (Abort fSteFetch))) (λ w. done (leafRule leafBits (w 0) stream))
+    fetch (l1stdAt r leafBits stream) 1 (done (Ended (Abort fSteFetch))) (λ w. done (leafRule r leafBits (w 0) stream))
 
 unfoldable pub streamRule : Registers → ℕ → Rule Found
 streamRule r stream =
     if eqb (smmuEn r) 0 then done (Ended (switchedOff r))  -- 1
     else if leb (2 ^ log2 r) stream then done (Ended (Abort cBadStreamId))  -- 2
-    else if linear r then done (Ste (linearAt r stream))  -- 3
+    else if isLinear r then done (Ste (linearAt r stream))  -- 3
     else twoLevelRule r (splitOf (split r)) stream  -- 4 to 6
-
--- what the rule gives on a lent memory, and the list as it grows from one that is handed on
-unfoldable pub walkedOn : ℕ → List ℕ → ℕ → Rule Found → Pieces → Walked
-walkedOn base memory limit rule l =
-    record {
-      found = runOn (extentOf base memory) limit (bytes memory) rule l .answer;
-      list = runOn (extentOf base memory) limit (bytes memory) rule l .list;
-    }

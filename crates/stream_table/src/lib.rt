@@ -1,9 +1,10 @@
 // Where a stream's STE lies. Start at `find_ste`.
 // Meets specs/StreamTable.antt; reads only through `memory_image::fetch`.
 ghost use mathlib.Core.Path.{_≡_};
-ghost use Rattle.stream_table.specs.StreamTable.{holds, l1stdAt, leafRule, linear, linearAt, log2, splitOf, streamRule, switchedOff, twoLevelRule, walkedOn};
+ghost use Rattle.answers.specs.Walk.{Walks};
+ghost use Rattle.stream_table.specs.StreamTable.{isLinear, l1stdAt, leafRule, linearAt, log2, splitOf, stesHeld, streamRule, switchedOff, twoLevelRule};
+use answers::ANSWER_WORDS;
 use answers::Outcome;
-use answers::Pieces;
 use bit_fields::aligned_down;
 use bit_fields::field;
 use bit_fields::high;
@@ -15,18 +16,12 @@ use bit_fields::power;
 use bit_fields::smaller;
 use ids::StreamId;
 use memory_image::Fetched;
-use memory_image::Piece;
 use registers::Registers;
 
 // Where the STE is, or how the lookup ends before there is one.
 pub enum Found {
     Ste(u64),
     Ended(Outcome),
-}
-
-pub struct Walked {
-    pub found: Found,
-    pub list: Pieces,
 }
 
 // What an L1STD's Span says of its leaf.
@@ -55,7 +50,7 @@ fn log2(registers: Registers) -> u64
 
 // Step 3: whether the table is linear, and where the STE is then.
 fn is_linear(registers: Registers) -> bool
-    ensures { λ r. ⌜ r ≡ linear registers ⌝ }
+    ensures { λ r. ⌜ r ≡ isLinear registers ⌝ }
 {
     if registers.st_level() == 0 {
         return true;
@@ -91,8 +86,8 @@ fn l1std_at(registers: Registers, split: u64, stream: StreamId) -> u64
 }
 
 // Step 5: how many STEs a leaf holds, by its Span.
-fn stes(span: u64, split: u64) -> Leaf
-    ensures { λ r. ⌜ r ≡ holds span split ⌝ }
+fn stes_held(span: u64, split: u64) -> Leaf
+    ensures { λ r. ⌜ r ≡ stesHeld span split ⌝ }
 {
     match span {
         0 => Leaf::Invalid,
@@ -107,12 +102,12 @@ fn stes(span: u64, split: u64) -> Leaf
 }
 
 // Steps 5 and 6: where an L1STD says that the STE is.
-fn in_leaf(split: u64, l1std: u64, stream: StreamId) -> Found
-    ensures { λ r. ⌜ r ≡ leafRule split l1std (stream .number) ⌝ }
+fn leaf_rule(registers: Registers, split: u64, l1std: u64, stream: StreamId) -> Found
+    ensures { λ r. ⌜ r ≡ leafRule registers split l1std (stream .number) ⌝ }
 {
     let span = field(l1std, 0, 5);
     let index = low(stream.number as u64, split);
-    let leaf = stes(span, split);
+    let leaf = stes_held(span, split);
     let Leaf::Holds(n) = leaf else {
         return Found::Ended(Outcome::Abort(answers::C_BAD_STREAMID));
     };
@@ -131,59 +126,41 @@ fn two_level(
     split: u64,
     base: u64,
     memory: &[u8],
-    limit: u64,
     stream: StreamId,
-    list: Pieces,
-) -> Walked
-    ensures { λ r. ⌜ r ≡ walkedOn base (now (memory .entry)) limit (twoLevelRule registers split (stream .number)) list ⌝ }
+    words: &mut [u64; ANSWER_WORDS],
+) -> Found
+    ensures { λ r. ⌜ Walks base (now (memory .entry)) (twoLevelRule registers split (stream .number)) (now (words .entry)) r (now (words .exit)) ⌝ }
 {
     let address = l1std_at(registers, split, stream);
-    let Fetched::At(place) = memory_image::fetch(base, memory, limit, address, 8) else {
-        return Walked {
-            found: Found::Ended(Outcome::Abort(answers::F_STE_FETCH)),
-            list,
-        };
+    let Fetched::At(place) = memory_image::fetch(base, memory, address, 8) else {
+        return Found::Ended(Outcome::Abort(answers::F_STE_FETCH));
     };
-    let l1std = memory_image::word_at(memory, place);
-    let longer = list.push(Piece { address, length: 8 });
-    let found = in_leaf(split, l1std, stream);
-    Walked {
-        found,
-        list: longer,
-    }
+    answers::push_piece(words, address, 8);
+    let l1std = memory_image::word_of(memory, place, 0);
+    leaf_rule(registers, split, l1std, stream)
 }
 
-// Where the STE of a stream lies, or how the lookup ends before. What is read goes on the list.
+// Where the STE of a stream lies, or how the lookup ends before. What is read goes on the list in the words.
 pub fn find_ste(
     registers: Registers,
     base: u64,
     memory: &[u8],
-    limit: u64,
     stream: StreamId,
-    list: Pieces,
-) -> Walked
-    ensures { λ r. ⌜ r ≡ walkedOn base (now (memory .entry)) limit (streamRule registers (stream .number)) list ⌝ }
+    words: &mut [u64; ANSWER_WORDS],
+) -> Found
+    ensures { λ r. ⌜ Walks base (now (memory .entry)) (streamRule registers (stream .number)) (now (words .entry)) r (now (words .exit)) ⌝ }
 {
     if registers.smmu_en() == 0 {
         let outcome = switched_off(registers);
-        return Walked {
-            found: Found::Ended(outcome),
-            list,
-        };
+        return Found::Ended(outcome);
     }
     if !in_bits(stream.number as u64, log2(registers)) {
-        return Walked {
-            found: Found::Ended(Outcome::Abort(answers::C_BAD_STREAMID)),
-            list,
-        };
+        return Found::Ended(Outcome::Abort(answers::C_BAD_STREAMID));
     }
     if is_linear(registers) {
         let address = linear_at(registers, stream);
-        return Walked {
-            found: Found::Ste(address),
-            list,
-        };
+        return Found::Ste(address);
     }
     let split = split_of(registers.split());
-    two_level(registers, split, base, memory, limit, stream, list)
+    two_level(registers, split, base, memory, stream, words)
 }

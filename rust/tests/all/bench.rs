@@ -79,6 +79,6 @@ pub fn with(stream: u32, substream: u64) -> Request {
 
 /// The list as pairs of address and length.
 pub fn list(answer: &Answer) -> Vec<(u64, u64)> {
-    let pieces = answer.list.iter();
+    let pieces = answer.list().iter();
     pieces.map(|piece| (piece.address, piece.length)).collect()
 }

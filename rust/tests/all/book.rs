@@ -12,7 +12,7 @@ fn an_edit_without_its_notice_is_stale_and_with_it_is_not() {
     // The L1STD, read first, is edited: Span 0.
     bench.put(0x8008, 0);
     let fresh = bench.lookup(without(256)).unwrap();
-    assert_eq!(fresh.outcome, Outcome::Abort(Event::CBadStreamid));
+    assert_eq!(fresh.outcome(), Outcome::Abort(Event::CBadStreamid));
     // No notice yet: the kept answer is not what a new lookup gives.
     let stale = book.ask(bench.memory(), without(256)).unwrap();
     assert_eq!(stale, (Kept::Before, first.1));
@@ -56,7 +56,7 @@ fn a_full_book_keeps_no_more() {
     let before = book;
     let (kept, answer) = book.ask(bench.memory(), without(256)).unwrap();
     assert_eq!(kept, Kept::Not);
-    assert_eq!(answer.outcome, Outcome::Bypass { ste: 0x2F00 });
+    assert_eq!(answer.outcome(), Outcome::Bypass { ste: 0x2F00 });
     assert_eq!(book, before);
     // Size 0 strikes nothing; the whole memory strikes all.
     book.notice(0, 0).unwrap();

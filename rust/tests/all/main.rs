@@ -5,3 +5,4 @@ mod book;
 mod header;
 mod refusals;
 mod shots;
+mod words;

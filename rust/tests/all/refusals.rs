@@ -145,14 +145,16 @@ fn a_damaged_book_is_refused_by_each_call_and_left() {
     book.ask(bench.memory(), without(0)).unwrap();
     book.ask(bench.memory(), without(256)).unwrap();
     let good = book.into_words();
+    let key = |slot| header::book_key(slot) as usize;
+    let answer = |place| (header::book_answer(0) + place) as usize;
     // Slots, a register, a slot past its number, a key twice, a kind, the count of pieces.
     for (at, word) in [
-        (0, 65),
-        (1, 1 << 32),
-        (11 + 4, 1),
-        (12, good[11]),
-        (75, 7),
-        (75 + 9, 5),
+        (header::BOOK_SLOTS as usize, SLOTS_MOST + 1),
+        (header::BOOK_REGISTERS as usize, 1 << 32),
+        (key(4), 1),
+        (key(1), good[key(0)]),
+        (answer(header::ANSWER_KIND), header::UNSERVED + 1),
+        (answer(header::ANSWER_COUNT), header::PIECES_MOST + 1),
     ] {
         let mut words = good;
         words[at] = word;

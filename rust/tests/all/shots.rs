@@ -12,7 +12,8 @@ fn bypass(ste: u64) -> Outcome {
 #[test]
 fn p1_to_p9() {
     let figure = figure();
-    let shots: [(u32, Outcome, &[(u64, u64)]); 9] = [
+    type Shot<'a> = (u32, Outcome, &'a [(u64, u64)]);
+    let shots: [Shot; 9] = [
         (0, bypass(0x0), &[(0x8000, 8), (0x0, 64)]),
         (255, bypass(0x3FC0), &[(0x8000, 8), (0x3FC0, 64)]),
         (256, bypass(0x2F00), &[(0x8008, 8), (0x2F00, 64)]),
@@ -25,7 +26,7 @@ fn p1_to_p9() {
     ];
     for (stream, outcome, read) in shots {
         let answer = figure.lookup(without(stream)).unwrap();
-        assert_eq!(answer.outcome, outcome, "stream {stream}");
+        assert_eq!(answer.outcome(), outcome, "stream {stream}");
         assert_eq!(list(&answer), read, "stream {stream}");
     }
     assert!(is_recorded(&figure.registers, Event::CBadStreamid));
@@ -39,8 +40,8 @@ fn p10_a_notice_of_one_byte_strikes_both_that_share_an_ste() {
     for stream in [188, 256, 0] {
         assert_eq!(ask(&mut book, stream).0, Kept::Newly);
     }
-    assert_eq!(ask(&mut book, 188).1.outcome, bypass(0x2F00));
-    assert_eq!(ask(&mut book, 256).1.outcome, bypass(0x2F00));
+    assert_eq!(ask(&mut book, 188).1.outcome(), bypass(0x2F00));
+    assert_eq!(ask(&mut book, 256).1.outcome(), bypass(0x2F00));
     book.notice(0x2EFF, 1).unwrap();
     book.notice(0x2F40, 1).unwrap();
     assert_eq!(ask(&mut book, 188).0, Kept::Before);
@@ -70,10 +71,10 @@ fn p11_and_p12() {
     let mut bench = stage_1(0);
     bench.put(0xFFC0, CD_WORD);
     let p11 = bench.lookup(with(768, 255)).unwrap();
-    assert_eq!(p11.outcome, translation(0xFFC0));
+    assert_eq!(p11.outcome(), translation(0xFFC0));
     assert_eq!(list(&p11), [(0x8018, 8), (0x4000, 64), (0xFFC0, 64)]);
     let p12 = bench.lookup(with(768, 256)).unwrap();
-    assert_eq!(p12.outcome, Outcome::Abort(Event::CBadSubstreamid));
+    assert_eq!(p12.outcome(), Outcome::Abort(Event::CBadSubstreamid));
     assert_eq!(list(&p12), [(0x8018, 8), (0x4000, 64)]);
 }
 
@@ -84,7 +85,7 @@ fn p13_and_p14() {
         bench.put(l1cd, 0xA000 | 1);
         bench.put(cd, CD_WORD);
         let answer = bench.lookup(with(768, 70)).unwrap();
-        assert_eq!(answer.outcome, translation(cd));
+        assert_eq!(answer.outcome(), translation(cd));
         let read = [(0x8018, 8), (0x4000, 64), (l1cd, 8), (cd, 64)];
         assert_eq!(list(&answer), read);
     }
@@ -101,7 +102,7 @@ fn a_translation_has_its_fields() {
     );
     bench.put(0xC008, 0x12_3456_7890);
     let answer = bench.lookup(with(768, 0)).unwrap();
-    let Outcome::Translate(found) = answer.outcome else {
+    let Outcome::Translate(found) = answer.outcome() else {
         panic!("{answer:?}");
     };
     let fields = (found.asid, found.t0sz, found.tg0, found.epd0);
@@ -112,7 +113,7 @@ fn a_translation_has_its_fields() {
 
 #[test]
 fn every_outcome_has_its_type() {
-    let quiet = |bench: &Bench| bench.lookup(without(0)).unwrap().outcome;
+    let quiet = |bench: &Bench| bench.lookup(without(0)).unwrap().outcome();
     let mut bench = figure();
     bench.put(0, 1);
     assert_eq!(quiet(&bench), Outcome::QuietAbort);
@@ -122,7 +123,7 @@ fn every_outcome_has_its_type() {
     let mut bench = stage_1(0);
     bench.put(0xC000, 1 << 31);
     bench.registers.idr0 |= 1 << 2;
-    let outcome = |bench: &Bench| bench.lookup(with(768, 0)).unwrap().outcome;
+    let outcome = |bench: &Bench| bench.lookup(with(768, 0)).unwrap().outcome();
     assert_eq!(outcome(&bench), Outcome::Unserved(Unserved::Vmsa32));
     bench.registers.idr0 |= 1 << 9;
     bench.put(0x4008, 1 << 30);

@@ -1,53 +1,46 @@
--- Proof of `answer_words::list_of`: it is the definition.
+-- Proof of `answer_words::list_of`: the pieces one by one. The loop's measure is how many are left.
 -- Assumes: nothing.
+use Prim.Native.Nat.{_-_}
+use native.Mathlib.Omega.{arith}
 use borrow.Author.Needs.{needs}
-use mathlib.Core.Path.{refl}
-use Rattle.answer_words.specs.AnswerWords.{listOf}
+use Rattle.answers.specs.Layout.{piecesMost}
+use Rattle.answer_words.proofs.ListLaws.{Taken, taken-none, taken-more, taken-all}
 use Rattle.answer_words.proofs.list_of.Statement.{statement}
 use Rattle.answer_words.proofs.list_of.Tie as tie
 
-array-read-count : tie.Need-array-read-count
-array-read-count c = search needs
+abbrev Inv-loop : tie.InvT-loop
+Inv-loop words piece₀ i₀ piece i = Taken words piece i
 
-array-read-address-0 : tie.Need-array-read-address-0
-array-read-address-0 c = search needs
+abbrev μ-loop : tie.MeasureT-loop
+μ-loop words piece₀ i₀ piece i = piecesMost - i
 
-array-read-length-0 : tie.Need-array-read-length-0
-array-read-length-0 c = search needs
+loop-holds : tie.Need-loop-holds Inv-loop μ-loop
+loop-holds c = taken-none _
 
-array-read-address-1 : tie.Need-array-read-address-1
-array-read-address-1 c = search needs
+loop-again : tie.Need-loop-again Inv-loop μ-loop
+loop-again c = search (needs, taken-more)
 
-array-read-length-1 : tie.Need-array-read-length-1
-array-read-length-1 c = search needs
-
-array-read-address-2 : tie.Need-array-read-address-2
-array-read-address-2 c = search needs
-
-array-read-length-2 : tie.Need-array-read-length-2
-array-read-length-2 c = search needs
-
-array-read-address-3 : tie.Need-array-read-address-3
-array-read-address-3 c = search needs
-
-array-read-length-3 : tie.Need-array-read-length-3
-array-read-length-3 c = search needs
-
-returns : tie.Need-returns
-unfolding listOf
-returns c = refl
+returns : tie.Need-returns Inv-loop μ-loop
+returns c = search (needs, taken-all)
 
 pub list-of-spec : {M : Type 1} → statement M
 list-of-spec =
     tie.close
     (tie.spec
-    array-read-count
-    array-read-address-0
-    array-read-length-0
-    array-read-address-1
-    array-read-length-1
-    array-read-address-2
-    array-read-length-2
-    array-read-address-3
-    array-read-length-3
+    Inv-loop
+    μ-loop
+    loop-holds
+    (λ c. omega arith)
+    (λ c. omega arith)
+    (λ c. omega arith)
+    (λ c. omega arith)
+    (λ c. omega arith)
+    (λ c. omega arith)
+    (λ c. omega arith)
+    (λ c. omega arith)
+    (λ c. omega arith)
+    (λ c. omega arith)
+    (λ c. omega arith)
+    loop-again
+    (λ c. omega arith)
     returns)

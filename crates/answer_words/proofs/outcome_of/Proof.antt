@@ -5,15 +5,6 @@ use Rattle.answer_words.proofs.AnswerWordsLaws.{of-translate, of-bypass
 use Rattle.answer_words.proofs.outcome_of.Statement.{statement}
 use Rattle.answer_words.proofs.outcome_of.Tie as tie
 
-array-read-kind : tie.Need-array-read-kind
-array-read-kind c = search needs
-
-array-read-value : tie.Need-array-read-value
-array-read-value c = search needs
-
-translation-of-requires : tie.Need-translation-of-requires
-translation-of-requires c κs = search needs
-
 returns : tie.Need-returns
 returns c = search (needs, of-translate)
 
@@ -36,9 +27,9 @@ pub outcome-of-spec : {M : Type 1} → statement M
 outcome-of-spec =
     tie.close
     (tie.spec
-    array-read-kind
-    array-read-value
-    translation-of-requires
+    (λ c. search needs)
+    (λ c. search needs)
+    (λ c κs. search needs)
     returns
     returns-2
     returns-3

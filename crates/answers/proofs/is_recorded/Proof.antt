@@ -5,9 +5,6 @@ use Rattle.answers.proofs.OutcomeLaws.{recorded-stream, recorded-other}
 use Rattle.answers.proofs.is_recorded.Statement.{statement}
 use Rattle.answers.proofs.is_recorded.Tie as tie
 
-rec-inv-sid-requires : tie.Need-rec-inv-sid-requires
-rec-inv-sid-requires c κs = search needs
-
 returns : tie.Need-returns
 returns c = search (needs, recorded-stream)
 
@@ -15,4 +12,4 @@ returns-2 : tie.Need-returns-2
 returns-2 c = search (needs, recorded-other)
 
 pub is-recorded-spec : {M : Type 1} → statement M
-is-recorded-spec = tie.close (tie.spec rec-inv-sid-requires returns returns-2)
+is-recorded-spec = tie.close (tie.spec (λ c κs. search needs) returns returns-2)

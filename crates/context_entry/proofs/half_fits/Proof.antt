@@ -5,9 +5,6 @@ use Rattle.context_entry.proofs.HalfLaws.{half-granule, half-low, half-
 use Rattle.context_entry.proofs.half_fits.Statement.{statement}
 use Rattle.context_entry.proofs.half_fits.Tie as tie
 
-is-there-requires : tie.Need-is-there-requires
-is-there-requires c κs = search needs
-
 returns : tie.Need-returns
 returns c = search (needs, half-granule)
 
@@ -17,12 +14,9 @@ returns-2 c = search (needs, half-low)
 returns-3 : tie.Need-returns-3
 returns-3 c = search (needs, half-high)
 
-in-bits-requires : tie.Need-in-bits-requires
-in-bits-requires c κs = search needs
-
 returns-4 : tie.Need-returns-4
 returns-4 c = search (needs, half-range)
 
 pub half-fits-spec : {M : Type 1} → statement M
 half-fits-spec =
-    tie.close (tie.spec is-there-requires returns returns-2 returns-3 in-bits-requires returns-4)
+    tie.close (tie.spec (λ c κs. search needs) returns returns-2 returns-3 (λ c κs. search needs) returns-4)

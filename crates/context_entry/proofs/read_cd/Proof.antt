@@ -5,50 +5,17 @@ use Rattle.context_entry.proofs.EntryLaws.{cd-invalid, cd-old, cd-bad, 
 use Rattle.context_entry.proofs.read_cd.Statement.{statement}
 use Rattle.context_entry.proofs.read_cd.Tie as tie
 
-field-requires : tie.Need-field-requires
-field-requires c κs = search needs
-
 returns : tie.Need-returns
 returns c = search (needs, cd-invalid)
-
-field-requires-2 : tie.Need-field-requires-2
-field-requires-2 c κs = search needs
-
-vmsa-32-requires : tie.Need-vmsa-32-requires
-vmsa-32-requires c κs = search needs
 
 returns-2 : tie.Need-returns-2
 returns-2 c = search (needs, cd-old)
 
-ttf-requires : tie.Need-ttf-requires
-ttf-requires c κs = search needs
-
-field-requires-3 : tie.Need-field-requires-3
-field-requires-3 c κs = search needs
-
 returns-3 : tie.Need-returns-3
 returns-3 c = search (needs, cd-bad)
 
-translation-requires : tie.Need-translation-requires
-translation-requires c κs = search needs
-
-field-requires-4 : tie.Need-field-requires-4
-field-requires-4 c κs = search needs
-
 returns-4 : tie.Need-returns-4
 returns-4 c = search (needs, cd-off)
-
-first-half-requires : tie.Need-first-half-requires
-first-half-requires c κs = search needs
-
-field-requires-5 : tie.Need-field-requires-5
-field-requires-5 c κs = search needs
-
-ips-bits-requires : tie.Need-ips-bits-requires
-ips-bits-requires c κs = search needs
-
-half-fits-requires : tie.Need-half-fits-requires
-half-fits-requires c κs = search needs
 
 returns-5 : tie.Need-returns-5
 returns-5 c = search (needs, cd-fits)
@@ -60,20 +27,18 @@ pub read-cd-spec : {M : Type 1} → statement M
 read-cd-spec =
     tie.close
     (tie.spec
-    field-requires
+    (λ c κs. search needs)
     returns
-    field-requires-2
-    vmsa-32-requires
+    (λ c κs. search needs)
+    (λ c κs. search needs)
     returns-2
-    ttf-requires
-    field-requires-3
+    (λ c κs. search needs)
+    (λ c κs. search needs)
     returns-3
-    translation-requires
-    field-requires-4
+    (λ c κs. search needs)
+    (λ c κs. search needs)
     returns-4
-    first-half-requires
-    field-requires-5
-    ips-bits-requires
-    half-fits-requires
+    (λ c κs. search needs)
+    (λ c κs. search needs)
     returns-5
     returns-6)

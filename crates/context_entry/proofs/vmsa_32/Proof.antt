@@ -5,12 +5,6 @@ use Rattle.context_entry.proofs.EntryLaws.{old-served, old-bad}
 use Rattle.context_entry.proofs.vmsa_32.Statement.{statement}
 use Rattle.context_entry.proofs.vmsa_32.Tie as tie
 
-ttf-requires : tie.Need-ttf-requires
-ttf-requires c κs = search needs
-
-field-requires : tie.Need-field-requires
-field-requires c κs = search needs
-
 returns : tie.Need-returns
 returns c = search (needs, old-served)
 
@@ -18,4 +12,4 @@ returns-2 : tie.Need-returns-2
 returns-2 c = search (needs, old-bad)
 
 pub vmsa-32-spec : {M : Type 1} → statement M
-vmsa-32-spec = tie.close (tie.spec ttf-requires field-requires returns returns-2)
+vmsa-32-spec = tie.close (tie.spec (λ c κs. search needs) (λ c κs. search needs) returns returns-2)

@@ -1,39 +1,15 @@
--- Proof of `context_table::find_cd`: the three kinds of table.
+-- Proof of `context_table::find_cd`: S1CDMax 0; S1Fmt 0; the rest.
 -- Assumes: nothing.
-use borrow.Author.Needs.{needs}
 use Rattle.context_table.proofs.ContextLaws.{find-alone, find-linear, find-two}
+use borrow.Author.Needs.{needs}
 use Rattle.context_table.proofs.find_cd.Statement.{statement}
 use Rattle.context_table.proofs.find_cd.Tie as tie
-
-field-requires : tie.Need-field-requires
-field-requires c κs = search needs
-
-mul-pointer : tie.Need-mul-pointer
-mul-pointer c = search needs
-
-field-requires-2 : tie.Need-field-requires-2
-field-requires-2 c κs = search needs
 
 returns : tie.Need-returns
 returns c = search (needs, find-alone)
 
-field-requires-3 : tie.Need-field-requires-3
-field-requires-3 c κs = search needs
-
-mul-address : tie.Need-mul-address
-mul-address c = search needs
-
-add-address : tie.Need-add-address
-add-address c = search needs
-
 returns-2 : tie.Need-returns-2
 returns-2 c = search (needs, find-linear)
-
-leaf-bits-requires : tie.Need-leaf-bits-requires
-leaf-bits-requires c κs = search needs
-
-two-level-requires : tie.Need-two-level-requires
-two-level-requires c κs = search needs
 
 returns-3 : tie.Need-returns-3
 returns-3 c = search (needs, find-two)
@@ -42,14 +18,13 @@ pub find-cd-spec : {M : Type 1} → statement M
 find-cd-spec =
     tie.close
     (tie.spec
-    field-requires
-    mul-pointer
-    field-requires-2
+    (λ c κs. search needs)
+    (λ c κs. search needs)
     returns
-    field-requires-3
-    mul-address
-    add-address
+    (λ c κs. search needs)
+    (λ c. search needs)
+    (λ c. search needs)
     returns-2
-    leaf-bits-requires
-    two-level-requires
+    (λ c κs. search needs)
+    (λ c κs. search needs)
     returns-3)

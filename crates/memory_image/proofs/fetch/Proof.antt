@@ -1,7 +1,7 @@
 -- Proof of `memory_image::fetch`: where the bytes lie, by what the tests say of sums.
 -- Assumes: nothing.
 use native.Mathlib.Omega.{arith}
-use Rattle.memory_image.proofs.ExtentLaws.{before, past-end, past-limit, had}
+use Rattle.memory_image.proofs.ExtentLaws.{before, past-end, had}
 use Rattle.memory_image.proofs.fetch.Statement.{statement}
 use Rattle.memory_image.proofs.fetch.Tie as tie
 
@@ -15,13 +15,7 @@ returns-3 : tie.Need-returns-3
 returns-3 c = past-end _ _ _ _ (omega arith)
 
 returns-4 : tie.Need-returns-4
-returns-4 c = past-limit _ _ _ _ (omega arith)
-
-returns-5 : tie.Need-returns-5
-returns-5 c = past-limit _ _ _ _ (omega arith)
-
-returns-6 : tie.Need-returns-6
-returns-6 c = had _ _ _ _ (record { from = omega arith; inside = omega arith; below = omega arith })
+returns-4 c = had _ _ _ _ (record { from = omega arith; inside = omega arith; below = omega arith })
 
 pub fetch-spec : {M : Type 1} → statement M
-fetch-spec = tie.close (tie.spec returns returns-2 returns-3 returns-4 returns-5 returns-6)
+fetch-spec = tie.close (tie.spec returns returns-2 returns-3 returns-4)

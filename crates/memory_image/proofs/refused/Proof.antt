@@ -11,11 +11,8 @@ returns c = search (needs, refused-base)
 returns-2 : tie.Need-returns-2
 returns-2 c = search (needs, refused-length)
 
-sub-result : tie.Need-sub-result
-sub-result c = search needs
-
 returns-3 : tie.Need-returns-3
 returns-3 c = search (needs, refused-end)
 
 pub refused-spec : {M : Type 1} → statement M
-refused-spec = tie.close (tie.spec returns returns-2 sub-result returns-3)
+refused-spec = tie.close (tie.spec returns returns-2 (λ c. search needs) returns-3)

@@ -1,21 +1,21 @@
--- Proof of `registers::size_of`: the table is the list of specs/Sizes.antt.
+-- Proof of `registers::size_of`.
 -- Assumes: nothing.
 use borrow.Author.Needs.{needs}
-use Rattle.registers.proofs.SizesLaws.{size-none, size-listed}
+use Rattle.registers.proofs.SizesLaws.{size-none, size-packed}
 use Rattle.registers.proofs.size_of.Statement.{statement}
 use Rattle.registers.proofs.size_of.Tie as tie
 
 returns : tie.Need-returns
 returns c = search (needs, size-none)
 
-mul-result : tie.Need-mul-result
-mul-result c = search needs
+mul-field : tie.Need-mul-field
+mul-field c = search needs
 
-array-read-result : tie.Need-array-read-result
-array-read-result c = search needs
+field-requires : tie.Need-field-requires
+field-requires c κs = search needs
 
 returns-2 : tie.Need-returns-2
-returns-2 c = search (needs, size-listed)
+returns-2 c = search (needs, size-packed)
 
 pub size-of-spec : {M : Type 1} → statement M
-size-of-spec = tie.close (tie.spec returns mul-result array-read-result returns-2)
+size-of-spec = tie.close (tie.spec returns mul-field field-requires returns-2)

@@ -5,12 +5,6 @@ use Rattle.stream_entry.proofs.EntryLaws.{bypass-without, bypass-with}
 use Rattle.stream_entry.proofs.bypass.Statement.{statement}
 use Rattle.stream_entry.proofs.bypass.Tie as tie
 
-enum-told : tie.Need-enum-told
-enum-told c = search needs
-
-enum-told-2 : tie.Need-enum-told-2
-enum-told-2 c = search needs
-
 returns : tie.Need-returns
 returns c = search (needs, bypass-without)
 
@@ -18,4 +12,4 @@ returns-2 : tie.Need-returns-2
 returns-2 c = search (needs, bypass-with)
 
 pub bypass-spec : {M : Type 1} → statement M
-bypass-spec = tie.close (tie.spec enum-told enum-told-2 returns returns-2)
+bypass-spec = tie.close (tie.spec (λ c. search needs) (λ c. search needs) returns returns-2)

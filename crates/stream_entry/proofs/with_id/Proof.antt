@@ -5,23 +5,11 @@ use Rattle.stream_entry.proofs.Stage1Laws.{with-none, with-past, with-d
 use Rattle.stream_entry.proofs.with_id.Statement.{statement}
 use Rattle.stream_entry.proofs.with_id.Tie as tie
 
-field-requires : tie.Need-field-requires
-field-requires c κs = search needs
-
 returns : tie.Need-returns
 returns c = search (needs, with-none)
 
-in-bits-requires : tie.Need-in-bits-requires
-in-bits-requires c κs = search needs
-
 returns-2 : tie.Need-returns-2
 returns-2 c = search (needs, with-past)
-
-field-requires-2 : tie.Need-field-requires-2
-field-requires-2 c κs = search needs
-
-both-requires : tie.Need-both-requires
-both-requires c κs = search needs
 
 returns-3 : tie.Need-returns-3
 returns-3 c = search (needs, with-disabled)
@@ -36,12 +24,12 @@ pub with-id-spec : {M : Type 1} → statement M
 with-id-spec =
     tie.close
     (tie.spec
-    field-requires
+    (λ c κs. search needs)
     returns
-    in-bits-requires
+    (λ c κs. search needs)
     returns-2
-    field-requires-2
-    both-requires
+    (λ c κs. search needs)
+    (λ c κs. search needs)
     returns-3
     cast-index
     returns-4)

@@ -5,14 +5,8 @@ use Rattle.stream_entry.proofs.Stage1Laws.{without-alone, without-disab
 use Rattle.stream_entry.proofs.without_id.Statement.{statement}
 use Rattle.stream_entry.proofs.without_id.Tie as tie
 
-field-requires : tie.Need-field-requires
-field-requires c κs = search needs
-
 returns : tie.Need-returns
 returns c = search (needs, without-alone)
-
-field-requires-2 : tie.Need-field-requires-2
-field-requires-2 c κs = search needs
 
 returns-2 : tie.Need-returns-2
 returns-2 c = search (needs, without-disabled)
@@ -25,4 +19,4 @@ returns-4 c = search (needs, without-cd)
 
 pub without-id-spec : {M : Type 1} → statement M
 without-id-spec =
-    tie.close (tie.spec field-requires returns field-requires-2 returns-2 returns-3 returns-4)
+    tie.close (tie.spec (λ c κs. search needs) returns (λ c κs. search needs) returns-2 returns-3 returns-4)

@@ -5,17 +5,11 @@ use Rattle.stream_table.proofs.AddressLaws.{linear-level, linear-format
 use Rattle.stream_table.proofs.is_linear.Statement.{statement}
 use Rattle.stream_table.proofs.is_linear.Tie as tie
 
-st-level-requires : tie.Need-st-level-requires
-st-level-requires c κs = search needs
-
 returns : tie.Need-returns
 returns c = search (needs, linear-level)
-
-fmt-requires : tie.Need-fmt-requires
-fmt-requires c κs = search needs
 
 returns-2 : tie.Need-returns-2
 returns-2 c = search (needs, linear-format)
 
 pub is-linear-spec : {M : Type 1} → statement M
-is-linear-spec = tie.close (tie.spec st-level-requires returns fmt-requires returns-2)
+is-linear-spec = tie.close (tie.spec (λ c κs. search needs) returns (λ c κs. search needs) returns-2)

@@ -5,9 +5,6 @@ use Rattle.stream_table.proofs.AddressLaws.{off-quiet, off-bypass}
 use Rattle.stream_table.proofs.switched_off.Statement.{statement}
 use Rattle.stream_table.proofs.switched_off.Tie as tie
 
-abort-requires : tie.Need-abort-requires
-abort-requires c κs = search needs
-
 returns : tie.Need-returns
 returns c = search (needs, off-quiet)
 
@@ -15,4 +12,4 @@ returns-2 : tie.Need-returns-2
 returns-2 c = search (needs, off-bypass)
 
 pub switched-off-spec : {M : Type 1} → statement M
-switched-off-spec = tie.close (tie.spec abort-requires returns returns-2)
+switched-off-spec = tie.close (tie.spec (λ c κs. search needs) returns returns-2)

@@ -1,33 +1,12 @@
--- Proof of `stream_table::two_level`: the L1STD is fetched, or it is not.
+-- Proof of `stream_table::two_level`.
 -- Assumes: nothing.
 use borrow.Author.Needs.{needs}
 use Rattle.stream_table.proofs.StreamLaws.{two-fault, two-read}
 use Rattle.stream_table.proofs.two_level.Statement.{statement}
 use Rattle.stream_table.proofs.two_level.Tie as tie
 
-l1std-at-requires : tie.Need-l1std-at-requires
-l1std-at-requires c κs = search needs
-
-fetch-requires : tie.Need-fetch-requires
-fetch-requires c κs = search needs
-
-enum-known-place : tie.Need-enum-known-place
-enum-known-place c = search needs
-
-enum-told : tie.Need-enum-told
-enum-told c = search needs
-
 returns : tie.Need-returns
 returns c = search (needs, two-fault)
-
-word-at-requires : tie.Need-word-at-requires
-word-at-requires c κs = search needs
-
-push-requires : tie.Need-push-requires
-push-requires c κs = search needs
-
-in-leaf-requires : tie.Need-in-leaf-requires
-in-leaf-requires c κs = search needs
 
 returns-2 : tie.Need-returns-2
 returns-2 c = search (needs, two-read)
@@ -36,12 +15,12 @@ pub two-level-spec : {M : Type 1} → statement M
 two-level-spec =
     tie.close
     (tie.spec
-    l1std-at-requires
-    fetch-requires
-    enum-known-place
-    enum-told
+    (λ c κs. search needs)
+    (λ c κs. search needs)
+    (λ c. search needs)
+    (λ c. search needs)
     returns
-    word-at-requires
-    push-requires
-    in-leaf-requires
+    (λ c κs. search needs)
+    (λ c κs. search needs)
+    (λ c κs. search needs)
     returns-2)

@@ -8,11 +8,8 @@ use Rattle.answer_words.proofs.proper.ends_below.Tie as tie
 returns : tie.Need-returns
 returns c = search (needs, address-past)
 
-sub-result : tie.Need-sub-result
-sub-result c = search needs
-
 returns-2 : tie.Need-returns-2
 returns-2 c = search (needs, length-last)
 
 pub ends-below-spec : {M : Type 1} → statement M
-ends-below-spec = tie.close (tie.spec returns sub-result returns-2)
+ends-below-spec = tie.close (tie.spec returns returns-2)

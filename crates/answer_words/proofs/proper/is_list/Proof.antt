@@ -26,9 +26,6 @@ mul-piece c = omega arith
 array-copy-out-piece : tie.Need-array-copy-out-piece Inv-loop μ-loop
 array-copy-out-piece c = omega arith
 
-ends-below-requires : tie.Need-ends-below-requires Inv-loop μ-loop
-ends-below-requires c κs = search needs
-
 -- a piece that ends past 2^52
 returns-2 : tie.Need-returns-2 Inv-loop μ-loop
 returns-2 c = search (needs, left-past, list-is)
@@ -56,7 +53,7 @@ is-list-spec =
     loop-holds
     mul-piece
     array-copy-out-piece
-    ends-below-requires
+    (λ c κs. search needs)
     returns-2
     add-i
     loop-less

@@ -5,33 +5,6 @@ use Rattle.answer_words.proofs.ProperTests.{translate-tested, bypass-te
 use Rattle.answer_words.proofs.proper.is_outcome.Statement.{statement}
 use Rattle.answer_words.proofs.proper.is_outcome.Tie as tie
 
-enum-known-outcome : tie.Need-enum-known-outcome
-enum-known-outcome c = search needs
-
-has-widths-requires : tie.Need-has-widths-requires
-has-widths-requires c κs = search needs
-
-enum-told : tie.Need-enum-told
-enum-told c = search needs
-
-enum-told-2 : tie.Need-enum-told-2
-enum-told-2 c = search needs
-
-enum-known-outcome-2 : tie.Need-enum-known-outcome-2
-enum-known-outcome-2 c = search needs
-
-is-event-requires : tie.Need-is-event-requires
-is-event-requires c κs = search needs
-
-enum-told-3 : tie.Need-enum-told-3
-enum-told-3 c = search needs
-
-enum-known-outcome-3 : tie.Need-enum-known-outcome-3
-enum-known-outcome-3 c = search needs
-
-is-case-requires : tie.Need-is-case-requires
-is-case-requires c κs = search needs
-
 returns : tie.Need-returns
 returns c = search (needs, translate-tested)
 
@@ -54,15 +27,15 @@ pub is-outcome-spec : {M : Type 1} → statement M
 is-outcome-spec =
     tie.close
     (tie.spec
-    enum-known-outcome
-    has-widths-requires
-    enum-told
-    enum-told-2
-    enum-known-outcome-2
-    is-event-requires
-    enum-told-3
-    enum-known-outcome-3
-    is-case-requires
+    (λ c. search needs)
+    (λ c κs. search needs)
+    (λ c. search needs)
+    (λ c. search needs)
+    (λ c. search needs)
+    (λ c κs. search needs)
+    (λ c. search needs)
+    (λ c. search needs)
+    (λ c κs. search needs)
     returns
     returns-2
     returns-3
