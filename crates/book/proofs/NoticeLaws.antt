@@ -14,7 +14,7 @@ use lib.Dec.{ltb}
 use lib.ListN.{set}
 use Rattle.memory_image.specs.Extent.{addressTop}
 use Rattle.memory_image.specs.declared.Piece.{Piece}
-use Rattle.answers.specs.Pieces.{piecesMost}
+use Rattle.answers.specs.Layout.{piecesMost}
 use Rattle.answers.specs.declared.Pieces.{Pieces}
 use Rattle.answer_words.specs.AnswerWords.{listOf}
 use Rattle.book_words.specs.Layout.{slotsMost, keysFrom, keyAt, blockAt}

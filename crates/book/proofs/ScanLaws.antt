@@ -12,7 +12,8 @@ use lib.ListN.{getD}
 use Rattle.number_laws.proofs.Scans.{left-none, left-one}
 use Rattle.bit_fields.specs.Choice.{if_then_else_}
 use Rattle.memory_image.specs.declared.Piece.{Piece}
-use Rattle.answers.specs.Pieces.{nothing, piecesMost}
+use Rattle.answers.specs.Layout.{piecesMost}
+use Rattle.answers.specs.Pieces.{nothing}
 use Rattle.book_words.specs.Layout.{slotsMost}
 use Rattle.book.specs.Book.{shares, sharedFrom, strike, struckFrom}
 

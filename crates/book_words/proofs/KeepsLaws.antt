@@ -22,7 +22,8 @@ use Rattle.registers.specs.Sizes.{refusal1}
 use Rattle.registers.specs.Words.{registerWords, registersFrom, wordsOfRegisters}
 use Rattle.registers.specs.declared.Registers.{Registers}
 use Rattle.memory_image.specs.Extent.{Extent, refusal2}
-use Rattle.answer_words.specs.AnswerWords.{answerWords, stands}
+use Rattle.answers.specs.Layout.{answerWords}
+use Rattle.answer_words.specs.AnswerWords.{stands}
 use Rattle.book_words.specs.Layout.{
   slotsMost,
   bookWords,

@@ -14,7 +14,7 @@ use lib.ListN.{length, getD, set, length-set}
 use lib.Seq.{getD-set-same, getD-set-other}
 use Rattle.placed.specs.From.{from}
 use Rattle.placed.proofs.FromLaws.{values-same, values-list}
-use Rattle.answer_words.specs.AnswerWords.{answerWords}
+use Rattle.answers.specs.Layout.{answerWords}
 use Rattle.book_words.specs.Layout.{slotsMost, bookWords, keysFrom, blocksFrom, blockFrom, keyAt, blockAt, copied, keptAt}
 
 -- words written from a place on

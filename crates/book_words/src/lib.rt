@@ -2,10 +2,10 @@
 // Meets specs/Layout.antt; `find` is `firstFrom` of specs/Malformed.antt.
 ghost use mathlib.Core.Path.{_≡_};
 ghost use Prim.Native.Nat.{_+_, _≤_, _<_};
-ghost use Rattle.answer_words.specs.AnswerWords.{answerWords};
+ghost use Rattle.answers.specs.Layout.{answerWords};
 ghost use Rattle.book_words.specs.Layout.{blockAt, bookWords, copied, keptAt, lowWord, openedWith, otherExtent, registersOf, slotsMost};
 ghost use Rattle.book_words.specs.Malformed.{firstFrom};
-use answer_words::ANSWER_WORDS;
+use answers::ANSWER_WORDS;
 use registers::REGISTER_WORDS;
 use registers::Registers;
 

@@ -74,7 +74,7 @@ fn slot_well(book: &[u64; BOOK_WORDS], i: usize, marks: &[u8; MARKS]) -> bool
         return false;
     }
     let block = super::block(book, i);
-    answer_words::is_answer(block)
+    answer_words::is_answer(&block)
 }
 
 // Whether every slot is; the keys of those that were looked at have their marks.

@@ -48,7 +48,7 @@ fn line_at(book: &[u64; BOOK_WORDS], i: usize) -> Line
     let unpacked = Request::unpack(key - 1);
     let registers = book_words::registers_of(book);
     let block = book_words::block(book, i);
-    let outcome = answer_words::outcome_of(block);
+    let outcome = answer_words::outcome_of(&block);
     match unpacked {
         Unpacked::Is(request) => Line::Kept(Entry {
             slot: i as u64,

@@ -5,7 +5,7 @@ use native.Mathlib.Omega.{arith}
 use Prim.Native.Nat.{_≤_, _-_}
 use native.Mathlib.Nat.{sub-zero}
 use mathlib.Core.Path.{_≡_}
-use Rattle.answers.specs.Pieces.{piecesMost}
+use Rattle.answers.specs.Layout.{piecesMost}
 use Rattle.book.specs.Book.{sharedFrom}
 use Rattle.book.proofs.ScanLaws.{any-none, any-found, any-more}
 use Rattle.book.proofs.strike.any_shares.Statement.{statement}
