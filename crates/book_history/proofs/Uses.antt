@@ -9,6 +9,7 @@ use borrow.Author.Tests.{eq-eqb, ltb-true, ltb-false}
 use lib.Dec.{eqb, ltb}
 use lib.ListN.{getD, length}
 use Rattle.memory_image.specs.declared.Piece.{Piece}
+use Rattle.answers.specs.Layout.{piecesMost}
 use Rattle.answers.specs.Pieces.{nothing}
 use Rattle.answer_words.specs.AnswerWords.{listOf}
 use Rattle.book_words.specs.Layout.{slotsMost, keysFrom, blocksFrom, keyAt, blockAt}
@@ -48,7 +49,7 @@ none-shared start l (suc m) j =
 
 none-touched : (ws : List ℕ) (start i : ℕ) → touched ws start 0 i ≡ false
 unfolding touched
-none-touched ws start i = rw (none-shared start (listOf (blockAt ws i) .piece) (min (listOf (blockAt ws i) .count) 4) 0) (and-false (not (eqb (keyAt ws i) 0)))
+none-touched ws start i = rw (none-shared start (listOf (blockAt ws i) .piece) (min (listOf (blockAt ws i) .count) piecesMost) 0) (and-false (not (eqb (keyAt ws i) 0)))
   where
     and-false : (b : Bool) → (b && false) ≡ false
     and-false true = refl
