@@ -41,8 +41,10 @@ typedef char llobatelh_size_has_64_bits[sizeof(size_t) == 8 ? 1 : -1];
 #define LLOBATELH_MEMORY_MOST 65536 /* bytes of lent memory */
 #define LLOBATELH_SLOTS_MOST 64     /* slots of a book */
 #define LLOBATELH_PIECES_MOST 4     /* descriptors that a lookup reads */
-#define LLOBATELH_REPORT_MOST 2084  /* bytes of a report: a buffer of so many is never refused with 8 */
 #define LLOBATELH_STE_BYTES 64      /* bytes of an STE */
+
+/* 2,084 bytes of a report: a header of 36, and at most 32 for each slot. A buffer of so many is never refused with 8. */
+#define LLOBATELH_REPORT_MOST (36 + 32 * LLOBATELH_SLOTS_MOST)
 
 /*
  * ---- Registers ----
@@ -98,7 +100,7 @@ typedef char llobatelh_size_has_64_bits[sizeof(size_t) == 8 ? 1 : -1];
  * An answer is 18 words. Words that a kind does not use are 0.
  */
 
-#define LLOBATELH_ANSWER_WORDS 18
+#define LLOBATELH_ANSWER_WORDS (LLOBATELH_ANSWER_PIECES + 2 * LLOBATELH_PIECES_MOST)
 
 #define LLOBATELH_ANSWER_KIND 0 /* one of the six below */
 #define LLOBATELH_TRANSLATE 1     /* stage 1: words STE to TTB0 */
@@ -121,8 +123,8 @@ typedef char llobatelh_size_has_64_bits[sizeof(size_t) == 8 ? 1 : -1];
 
 /* The descriptors that were read, in order: how many, and then the address and the length of each; 0 past the last.
    A fetch that faulted is not among them. */
-#define LLOBATELH_ANSWER_COUNT 9
-#define LLOBATELH_ANSWER_PIECES 10
+#define LLOBATELH_ANSWER_COUNT (LLOBATELH_ANSWER_TTB0 + 1)
+#define LLOBATELH_ANSWER_PIECES (LLOBATELH_ANSWER_COUNT + 1)
 #define LLOBATELH_ANSWER_ADDRESS(i) (LLOBATELH_ANSWER_PIECES + 2 * (i))
 #define LLOBATELH_ANSWER_LENGTH(i) (LLOBATELH_ANSWER_PIECES + 2 * (i) + 1)
 
@@ -147,18 +149,20 @@ typedef char llobatelh_size_has_64_bits[sizeof(size_t) == 8 ? 1 : -1];
  * are all 0 are no book: each other call refuses them with 7.
  */
 
-#define LLOBATELH_BOOK_WORDS 1227
+#define LLOBATELH_BOOK_WORDS (LLOBATELH_BOOK_ANSWERS + LLOBATELH_ANSWER_WORDS * LLOBATELH_SLOTS_MOST)
 
-#define LLOBATELH_BOOK_SLOTS 0       /* the number of slots */
-#define LLOBATELH_BOOK_REGISTERS 1   /* the seven registers of 32 bits, a word each, by the indexes above */
-#define LLOBATELH_BOOK_STRTAB_BASE 8 /* STRTAB_BASE */
-#define LLOBATELH_BOOK_BASE 9        /* the lent memory's base */
-#define LLOBATELH_BOOK_LENGTH 10     /* and its length */
+#define LLOBATELH_BOOK_SLOTS 0 /* the number of slots */
+#define LLOBATELH_BOOK_REGISTERS 1 /* the seven registers of 32 bits, a word each, by the indexes above */
+#define LLOBATELH_BOOK_STRTAB_BASE (LLOBATELH_BOOK_REGISTERS + LLOBATELH_REGISTERS) /* 8: STRTAB_BASE */
+#define LLOBATELH_BOOK_BASE (LLOBATELH_BOOK_STRTAB_BASE + 1) /* 9: the lent memory's base */
+#define LLOBATELH_BOOK_LENGTH (LLOBATELH_BOOK_BASE + 1) /* 10: and its length */
+#define LLOBATELH_BOOK_KEYS (LLOBATELH_BOOK_LENGTH + 1) /* 11: a key for each slot */
+#define LLOBATELH_BOOK_ANSWERS (LLOBATELH_BOOK_KEYS + LLOBATELH_SLOTS_MOST) /* 75: an answer for each slot */
 
 /* Slot i, 0 to 63: its key, which is 0 where the slot is empty, and the 18 words of its answer. A key is 1 more than the request's
    word: the StreamID from bit 21 on; below it 0, or bit 20 and the SubstreamID. */
-#define LLOBATELH_BOOK_KEY(i) (11 + (i))
-#define LLOBATELH_BOOK_ANSWER(i) (75 + LLOBATELH_ANSWER_WORDS * (i))
+#define LLOBATELH_BOOK_KEY(i) (LLOBATELH_BOOK_KEYS + (i))
+#define LLOBATELH_BOOK_ANSWER(i) (LLOBATELH_BOOK_ANSWERS + LLOBATELH_ANSWER_WORDS * (i))
 
 /*
  * A book is malformed exactly if

@@ -1,20 +1,24 @@
 -- Each way out of a notice, on plain values.
 --     share-below, share-above         whether a piece and a notice share an address, by which starts first
 --     touch-empty, touch-held          one slot
+--     apart-from, untouched            what a slot that is not touched has
 --     strike-hit, strike-miss          a slot struck, and one left
 --     notice-malformed, notice-start, notice-end, notice-done
 -- Assumes: nothing.
-use Prim.Native.Nat.{ℕ, _+_, _-_, _≤_, _<_, min, max}
+use Prim.Native.Nat.{ℕ, _+_, _-_, _≤_, _<_, min, max, zero, suc}
 use native.Mathlib.Omega.{arith}
-use mathlib.Core.Path.{_≡_, refl, sym, ap, _∙_}
-use mathlib.Core.Bool.{Bool, true, false, not, _&&_}
+use Rattle.number_laws.proofs.Tests.{not-both}
+use Rattle.bit_fields.specs.Choice.{if_then_else_}
+use Rattle.answers.specs.Pieces.{nothing}
+use mathlib.Core.Path.{_≡_, refl, sym, _∙_}
+use mathlib.Core.Bool.{Bool, true, false, _&&_}
 use mathlib.Core.List.{List}
-use borrow.Author.Tests.{eq-eqb, ne-eqb, lt-ltb, le-ltb, ltb-true, ltb-false}
-use lib.Dec.{ltb}
-use lib.ListN.{set}
+use borrow.Author.Tests.{eq-eqb, ne-eqb, lt-ltb, le-ltb, ltb-true, ltb-false, eqb-true, eqb-false}
+use lib.Dec.{ltb, eqb}
+use lib.ListN.{set, getD}
 use Rattle.memory_image.specs.Extent.{addressTop}
 use Rattle.memory_image.specs.declared.Piece.{Piece}
-use Rattle.answers.specs.Pieces.{piecesMost}
+use Rattle.answers.specs.Layout.{piecesMost}
 use Rattle.answers.specs.declared.Pieces.{Pieces}
 use Rattle.answer_words.specs.AnswerWords.{listOf}
 use Rattle.book_words.specs.Layout.{slotsMost, keysFrom, keyAt, blockAt}
@@ -48,6 +52,30 @@ module _ (start size : ℕ) (p : Piece) where
       is
       ∙ meets (start - p .address) (p .length) 0 size (max (p .address) start) (min (p .address + p .length) (start + size))
       (λ a b. omega arith) (λ a. omega arith) (λ a. omega arith)
+
+module _ (start size : ℕ) where
+  -- where no piece of a list shares an address, each shares none
+  pub apart-from :
+      (l : List Piece) (m j₀ j : ℕ) → sharedFrom start size l m j₀ ≡ false → j₀ ≤ j → j < j₀ + m
+      → shares start size (getD l j nothing) ≡ false
+  unfolding sharedFrom
+  apart-from l zero j₀ j is from to = absurd (omega arith)
+  apart-from l (suc m) j₀ j is from to = go (shares start size (getD l j₀ nothing)) refl is (eqb j₀ j) refl (apart-from l m (j₀ + 1) j)
+    where
+      go :
+          (t : Bool) → shares start size (getD l j₀ nothing) ≡ t → (if t then true else sharedFrom start size l m (j₀ + 1)) ≡ false
+          → (u : Bool) → eqb j₀ j ≡ u
+          → (sharedFrom start size l m (j₀ + 1) ≡ false → j₀ + 1 ≤ j → j < j₀ + 1 + m → shares start size (getD l j nothing) ≡ false)
+          → shares start size (getD l j nothing) ≡ false
+      go true a b u c more = not-both b
+      go false a b true c more = rw (← eqb-true j₀ j c) a
+      go false a b false c more = let other : j₀ ≡ j → ⊥ = eqb-false j₀ j c in more b (omega arith) (omega arith)
+
+  pub untouched :
+      (ws : List ℕ) (i : ℕ) → (keyAt ws i ≡ 0 → ⊥) → touched ws start size i ≡ false
+      → sharedFrom start size (listOf (blockAt ws i) .piece) (min (listOf (blockAt ws i) .count) piecesMost) 0 ≡ false
+  unfolding touched
+  untouched ws i held is = rw (ne-eqb (keyAt ws i) 0 held) at is
 
 module _ (ws : List ℕ) (start size i : ℕ) where
   pub touch-empty : keyAt ws i ≡ 0 → false ≡ touched ws start size i

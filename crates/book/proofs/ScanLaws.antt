@@ -12,7 +12,8 @@ use lib.ListN.{getD}
 use Rattle.number_laws.proofs.Scans.{left-none, left-one}
 use Rattle.bit_fields.specs.Choice.{if_then_else_}
 use Rattle.memory_image.specs.declared.Piece.{Piece}
-use Rattle.answers.specs.Pieces.{nothing, piecesMost}
+use Rattle.answers.specs.Layout.{piecesMost}
+use Rattle.answers.specs.Pieces.{nothing}
 use Rattle.book_words.specs.Layout.{slotsMost}
 use Rattle.book.specs.Book.{shares, sharedFrom, strike, struckFrom}
 
@@ -57,6 +58,6 @@ module _ (before ws : List ℕ) (start size : ℕ) {i : ℕ} (left : struckFrom 
   all-struck past = sym (left ∙ struck-end ws start size slotsMost i past)
 
   pub more-struck :
-      i < 64 → {next : List ℕ} → next ≡ strike ws start size i
+      i < slotsMost → {next : List ℕ} → next ≡ strike ws start size i
       → struckFrom before start size slotsMost 0 ≡ struckFrom next start size (slotsMost - (i + 1)) (i + 1)
   more-struck more is = left ∙ struck-step ws start size slotsMost i more is

@@ -4,11 +4,11 @@
 --     shares, touched, struckFrom    a notice: which slots it strikes
 -- A refused call leaves every word.
 -- Assumes: nothing.
-use Prim.Native.Nat.{ℕ, zero, suc, _+_, _*_, min, max}
+use Prim.Native.Nat.{ℕ, zero, suc, _+_, min, max}
 use mathlib.Core.Path.{_≡_}
 use mathlib.Core.Bool.{Bool, true, false, not, _&&_, _||_}
 use mathlib.Core.List.{List}
-use lib.Dec.{eqb, leb, ltb}
+use lib.Dec.{eqb, ltb}
 use lib.ListN.{getD, length, set}
 use Rattle.bit_fields.specs.Choice.{if_then_else_}
 use Rattle.ids.specs.Ids.{refusal3}
@@ -17,8 +17,8 @@ use Rattle.registers.specs.Sizes.{refusal1}
 use Rattle.registers.specs.declared.Registers.{Registers}
 use Rattle.memory_image.specs.Extent.{Extent, refusal2, addressTop}
 use Rattle.memory_image.specs.declared.Piece.{Piece}
-use Rattle.answers.specs.Pieces.{none, nothing, piecesMost}
-use Rattle.answers.specs.declared.Outcome.{Outcome}
+use Rattle.answers.specs.Layout.{piecesMost}
+use Rattle.answers.specs.Pieces.{none, nothing}
 use Rattle.answers.specs.declared.Pieces.{Pieces}
 use Rattle.answer_words.specs.AnswerWords.{wordsOf, outcomeOf, listOf}
 use Rattle.lookup.specs.Lookup.{lookedUp}

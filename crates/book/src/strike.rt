@@ -2,7 +2,7 @@
 // Meets `shares`, `touched` and `struckFrom` of specs/Book.antt.
 ghost use mathlib.Core.Path.{_≡_};
 ghost use Prim.Native.Nat.{_<_, min};
-ghost use Rattle.answers.specs.Pieces.{piecesMost};
+ghost use Rattle.answers.specs.Layout.{piecesMost};
 ghost use Rattle.book_words.specs.Layout.{slotsMost};
 ghost use Rattle.book.specs.Book.{sharedFrom, shares, strike, struckFrom, touched};
 use answers::PIECES_MOST;
@@ -51,7 +51,7 @@ fn touches(book: &[u64; BOOK_WORDS], i: usize, start: u64, size: u64) -> bool
         return false;
     }
     let block = book_words::block(book, i);
-    let list = answer_words::list_of(block);
+    let list = answer_words::list_of(&block);
     any_shares(start, size, list)
 }
 

@@ -1,12 +1,12 @@
 -- The claims of specs/Claims.antt, each under its own name.
 -- Assumes: nothing.
-use Prim.Native.Nat.{ℕ, zero, suc, _+_, _-_, _^_, _≤_, _<_, min, max}
+use Prim.Native.Nat.{ℕ, _+_, _-_, _^_, _<_, min, max}
 use native.Mathlib.Omega.{arith}
 use mathlib.Core.Path.{_≡_, refl, sym, ap, _∙_}
-use mathlib.Core.Bool.{Bool, true, false, not, _&&_}
+use mathlib.Core.Bool.{Bool, true, false}
 use mathlib.Core.List.{List}
-use borrow.Author.Tests.{eq-eqb, lt-ltb, le-ltb, ltb-true, ltb-false, eqb-true}
-use lib.Dec.{eqb, ltb}
+use borrow.Author.Tests.{eq-eqb, lt-ltb, le-ltb, ltb-true}
+use lib.Dec.{ltb}
 use lib.ListN.{length}
 use Rattle.bit_fields.specs.Choice.{if_then_else_}
 use Rattle.ids.specs.Ids.{refusal3}
@@ -16,8 +16,6 @@ use Rattle.ids.specs.declared.Unpacked.the-variants.{Is}
 use Rattle.ids.proofs.PackingLaws.{unpack-pack}
 use Rattle.registers.specs.declared.Registers.{Registers}
 use Rattle.memory_image.specs.Extent.{extentOf, refusal2}
-use Rattle.memory_image.specs.declared.Piece.{Piece}
-use Rattle.answers.specs.declared.Outcome.{Outcome}
 use Rattle.answers.specs.declared.Pieces.{Pieces}
 use Rattle.answer_words.specs.AnswerWords.{outcomeOf, listOf}
 use Rattle.lookup.specs.Lookup.{lookedUp}
@@ -25,15 +23,14 @@ use Rattle.lookup.specs.declared.Looked.{Looked}
 use Rattle.lookup.specs.declared.Answer.{Answer}
 use Rattle.lookup.specs.declared.Answer.the-variants as looked
 use Rattle.lookup.proofs.Claims.{refused-exactly}
-use Rattle.book_history.specs.Claims.{NeverStale, FreshIn, StillGood, NeverMalformed, StrikesExactly, Shared, SharesMeans, LowestEmpty, KeptChangesNothing, FullChangesNothing, RefusedChangesNothing, StartsEmpty, OneOpening, OneAsk, OneNotice, lookedIn, askedAfter}
-use Rattle.book_words.specs.Layout.{slotsMost, bookWords, slotsOf, registersOf, baseOf, lengthOf, keyAt, blockAt, otherExtent}
-use Rattle.book_words.specs.Malformed.{firstFrom, refusal7}
-use Rattle.book.specs.Book.{slotOf, emptySlot, newly, nowHolding, refusedWith, askResult, askBook, newLookup, shares, touched, struckFrom}
-use Rattle.book_history.specs.History.{State, Step, run, Clean, Began}
-use Rattle.book.specs.declared.Asked.{Asked}
-use Rattle.book.specs.declared.Reply.the-variants.{Refused, KeptBefore, NewlyKept, NotKept}
+use Rattle.book_history.specs.Claims.{NeverStale, FreshIn, StillGood, NeverMalformed, StrikesExactly, SharesMeans, LowestEmpty, KeptChangesNothing, FullChangesNothing, RefusedChangesNothing, StartsEmpty, OneOpening, OneAsk, OneNotice, lookedIn, askedAfter}
+use Rattle.book_words.specs.Layout.{slotsMost, bookWords, slotsOf, baseOf, keyAt, blockAt, otherExtent}
+use Rattle.book_words.specs.Malformed.{refusal7}
+use Rattle.book.specs.Book.{slotOf, emptySlot, newly, nowHolding, refusedWith, askResult, askBook, newLookup, shares}
+use Rattle.book_history.specs.History.{State, Step, run, Began}
+use Rattle.book.specs.declared.Reply.the-variants.{Refused, KeptBefore}
 use Rattle.book.proofs.StruckLaws.{struck-else, struck-key}
-use Rattle.book_words.proofs.WellLaws.{Well, well-from, first-key, first-low}
+use Rattle.book_words.proofs.WellLaws.{well-from, first-key, first-low}
 use Rattle.book_words.proofs.KeepsLaws.{opened-empty}
 use Rattle.book_history.proofs.HistoryLaws.{Sound, heldIn, run-sound, open-sound}
 

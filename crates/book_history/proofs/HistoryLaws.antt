@@ -3,13 +3,13 @@
 --     Sound             the whole of it
 --     open-sound, step-sound, run-sound
 -- Assumes: nothing.
-use Prim.Native.Nat.{ℕ, zero, suc, _+_, _-_, _*_, _^_, _≤_, _<_, min, max}
+use Prim.Native.Nat.{ℕ, zero, suc, _+_, _-_, _^_, _≤_, _<_, min, max}
 use native.Mathlib.Omega.{arith}
 use native.Mathlib.Nat.{zero-add}
 use mathlib.Core.Path.{_≡_, refl, sym, ap, _∙_}
 use mathlib.Core.Bool.{Bool, true, false, not, _&&_, _||_}
 use mathlib.Core.List.{List, [], _∷_}
-use borrow.Author.Tests.{le-leb, lt-ltb, ltb-true, ltb-false, eqb-true, eqb-false, ne-eqb, leb-true}
+use borrow.Author.Tests.{ltb-true, ltb-false, eqb-true, eqb-false, ne-eqb, leb-true}
 use lib.Dec.{eqb, leb, ltb}
 use lib.ListN.{length, getD}
 use Rattle.number_laws.proofs.Tests.{not-both}
@@ -26,26 +26,28 @@ use Rattle.memory_image.specs.Extent.{Extent, extentOf, refusal2}
 use Rattle.memory_image.specs.Rule.{Agree}
 use Rattle.memory_image.specs.Words.{bytes}
 use Rattle.memory_image.specs.declared.Piece.{Piece}
+use Rattle.answers.specs.Layout.{piecesMost}
 use Rattle.answers.specs.Pieces.{nothing, EachPiece}
 use Rattle.answers.specs.declared.Outcome.{Outcome}
 use Rattle.answers.specs.declared.Pieces.{Pieces}
 use Rattle.answers.specs.Proper.{ProperAnswer}
-use Rattle.answer_words.specs.AnswerWords.{wordsOf, outcomeOf, listOf, stands}
+use Rattle.answer_words.specs.AnswerWords.{wordsOf, outcomeOf, listOf}
 use Rattle.answer_words.proofs.AnswerWordsLaws.{words-length, outcome-back, list-back, stands-proper, stands-count}
 use Rattle.lookup.specs.Lookup.{lookedUp}
 use Rattle.lookup.specs.declared.Looked.{Looked}
 use Rattle.lookup.specs.declared.Answer.{Answer}
 use Rattle.lookup.specs.declared.Answer.the-variants as looked
 use Rattle.lookup.proofs.Claims.{depends-on-list, listed-lies, answers-proper}
-use Rattle.book_words.specs.Layout.{slotsMost, bookWords, keysFrom, slotsOf, registersOf, baseOf, lengthOf, keyAt, blockAt, keptAt, openedWith}
+use Rattle.book_words.specs.Layout.{slotsMost, bookWords, baseAt, lengthAt, keysFrom, slotsOf, registersOf, baseOf, lengthOf, keyAt, blockAt, keptAt, openedWith}
 use Rattle.book.specs.Book.{shares, sharedFrom, touched, struckFrom, slotOf, emptySlot, nowHolding, newLookup, askBook, openSays, noticeSays, ifDone}
 use Rattle.book_words.specs.Malformed.{refusal7}
 use Rattle.book_history.specs.History.{State, Step, edit, notice, ask, report, edited, noticedAt, stillDirty, step, run, Clean, Began}
 use Rattle.book.specs.declared.Said.{Said}
 use Rattle.book.specs.declared.Said.the-variants as said
 use Rattle.book_words.proofs.KeptLaws.{kept-length, kept-before, kept-key, kept-key-other, kept-block, kept-block-other}
+use Rattle.book.proofs.NoticeLaws.{apart-from, untouched}
 use Rattle.book.proofs.StruckLaws.{struck-length, struck-else, struck-block, struck-left, struck-well}
-use Rattle.book_words.proofs.WellLaws.{held-to, first-low, Well, well-to, well-from}
+use Rattle.book_words.proofs.WellLaws.{held-to, first-low, Well}
 use Rattle.book_words.proofs.KeepsLaws.{registers-same, kept-well, open-well, opened-length, opened-registers, opened-empty}
 
 -- what a slot's block says, as a lookup would
@@ -104,24 +106,7 @@ module _ (r : Registers) (base : ℕ) (s : State) (at : ℕ → Bool) (other : L
 
 -- a notice
 module _ (start size : ℕ) where
-  -- a list that a notice doesn't touch has none of its addresses
-  apart-from :
-      (l : List Piece) (m j₀ j : ℕ) → sharedFrom start size l m j₀ ≡ false → j₀ ≤ j → j < j₀ + m
-      → shares start size (getD l j nothing) ≡ false
-  unfolding sharedFrom
-  apart-from l zero j₀ j is from to = absurd (omega arith)
-  apart-from l (suc m) j₀ j is from to = go (shares start size (getD l j₀ nothing)) refl is (eqb j₀ j) refl (apart-from l m (j₀ + 1) j)
-    where
-      go :
-          (t : Bool) → shares start size (getD l j₀ nothing) ≡ t → (if t then true else sharedFrom start size l m (j₀ + 1)) ≡ false
-          → (u : Bool) → eqb j₀ j ≡ u
-          → (sharedFrom start size l m (j₀ + 1) ≡ false → j₀ + 1 ≤ j → j < j₀ + 1 + m → shares start size (getD l j nothing) ≡ false)
-          → shares start size (getD l j nothing) ≡ false
-      go true a b u c more = not-both b
-      go false a b true c more = rw (← eqb-true j₀ j c) a
-      go false a b false c more = let other : j₀ ≡ j → ⊥ = eqb-false j₀ j c in more b (omega arith) (omega arith)
-
-  -- so an address of such a piece is not noticed
+  -- an address of a piece that shares none with a notice is not noticed
   apart : (p : Piece) (a : ℕ) → shares start size p ≡ false → p .address ≤ a → a < p .address + p .length → noticedAt start size a ≡ false
   unfolding shares
   apart p a is from to = go (leb start a) refl (ltb a (start + size)) refl
@@ -133,12 +118,6 @@ module _ (start size : ℕ) where
       go true e true f = absurd (omega (arith, leb-true start a e, ltb-true a (start + size) f, away))
       go true e false f = refl
       go false e u f = refl
-
-  untouched :
-      (ws : List ℕ) (i : ℕ) → (keyAt ws i ≡ 0 → ⊥) → touched ws start size i ≡ false
-      → sharedFrom start size (listOf (blockAt ws i) .piece) (min (listOf (blockAt ws i) .count) 4) 0 ≡ false
-  unfolding touched
-  untouched ws i held is = rw (ne-eqb (keyAt ws i) 0 held) at is
 
   module _ (r : Registers) (base : ℕ) (s : State) where
     pub struck-sound :
@@ -154,8 +133,8 @@ module _ (start size : ℕ) where
           size = struck-length start size slotsMost (s .words) 0 ∙ h .size;
           well = struck-well (s .words) start size (h .size) (h .well);
           registers = registers-same (s .words) _ (λ x few. at x (omega arith)) ∙ h .registers;
-          base-is = at 9 (omega arith) ∙ h .base-is;
-          length-is = at 10 (omega arith) ∙ h .length-is;
+          base-is = at baseAt (omega arith) ∙ h .base-is;
+          length-is = at lengthAt (omega arith) ∙ h .length-is;
           fresh = λ i small held clean request is. stays i small held clean request is;
         }
       where
@@ -177,12 +156,12 @@ module _ (start size : ℕ) where
             let left = struck-left (s .words) start size (h .size) (h .well) i small held in
             let was-held : keyAt (s .words) i ≡ 0 → ⊥ = λ none. held (left .1 ∙ none) in
             let few = stands-count (blockAt (s .words) i) (held-to (s .words) i small (h .well .slots i small) was-held .answer) in
-            let none-shared = untouched (s .words) i was-held (left .0) in
+            let none-shared = untouched start size (s .words) i was-held (left .0) in
             let clean′ : Clean (λ a. if noticedAt start size a then false else s .dirty a) (listOf (blockAt (s .words) i)) = rw (same-block i) at clean in
             rw (same-block i)
             (h .fresh i small was-held
             (λ j counted a from to.
-            let out = apart-from (listOf (blockAt (s .words) i) .piece) (min (listOf (blockAt (s .words) i) .count) 4) 0 j none-shared (omega arith) (omega arith) in
+            let out = apart-from start size (listOf (blockAt (s .words) i) .piece) (min (listOf (blockAt (s .words) i) .count) piecesMost) 0 j none-shared (omega arith) (omega arith) in
             clear a (apart (getD (listOf (blockAt (s .words) i) .piece) j nothing) a out from to) (clean′ j counted a from to))
             request (ap (λ (k : ℕ). unpacked (k - 1)) (sym (left .1)) ∙ is))
 
@@ -214,8 +193,8 @@ module _ (r : Registers) (base : ℕ) (s : State) (h : Sound r base s) (request 
             kept-well (s .words) j (packed request + 1) (wordsOf outcome l) (h .size) (h .well) room new back (words-length outcome l)
             (stands-proper outcome l (proper .array-full) (proper .outcome-proper) (proper .list-proper));
         registers = registers-same (s .words) _ (λ x few. at x (omega arith)) ∙ h .registers;
-        base-is = at 9 (omega arith) ∙ h .base-is;
-        length-is = at 10 (omega arith) ∙ h .length-is;
+        base-is = at baseAt (omega arith) ∙ h .base-is;
+        length-is = at lengthAt (omega arith) ∙ h .length-is;
         fresh = λ i small held clean q is. slot i small held clean q is (eqb i j) refl;
       }
     where
@@ -373,8 +352,8 @@ open-sound r base s began =
     let parts = accepted-parts r e (began .slots) (began .accepted) in
     record {
       size = rw (began .opened) (opened-length r e (began .slots));
-      well = rw (began .opened) (open-well r e (began .slots) (began .narrow) (parts .0) (parts .1) (parts .2) (parts .3));
-      registers = rw (began .opened) (opened-registers r e (began .slots) (began .narrow));
+      well = rw (began .opened) (open-well r e (began .slots) (began .narrow .each) (parts .0) (parts .1) (parts .2) (parts .3));
+      registers = rw (began .opened) (opened-registers r e (began .slots) (began .narrow .each));
       base-is = rw (began .opened);
       length-is = rw (began .opened);
       fresh = λ i small held clean request is. absurd (held (rw (began .opened) (opened-empty r e (began .slots) i small)));

@@ -1,21 +1,19 @@
 -- What follows from the claims: specs/Uses.antt, each from the claim that it names.
 -- Assumes: nothing.
-use Prim.Native.Nat.{ℕ, zero, suc, min, _+_, _-_, _^_, _≤_, _<_}
+use Prim.Native.Nat.{ℕ, zero, suc, min, _+_, _-_, _≤_, _<_}
 use native.Mathlib.Omega.{arith}
-use mathlib.Core.Path.{_≡_, refl, sym, ap, _∙_}
+use mathlib.Core.Path.{_≡_, refl, _∙_}
 use mathlib.Core.Bool.{Bool, true, false, not, _&&_}
 use mathlib.Core.List.{List}
 use borrow.Author.Tests.{eq-eqb, ltb-true, ltb-false}
 use lib.Dec.{eqb, ltb}
 use lib.ListN.{getD, length}
-use Rattle.bit_fields.specs.Choice.{if_then_else_}
 use Rattle.memory_image.specs.declared.Piece.{Piece}
+use Rattle.answers.specs.Layout.{piecesMost}
 use Rattle.answers.specs.Pieces.{nothing}
 use Rattle.answer_words.specs.AnswerWords.{listOf}
-use Rattle.book_words.specs.Layout.{slotsMost, keysFrom, blocksFrom, slotsOf, keyAt, blockAt, openedWith}
-use Rattle.book_words.specs.Malformed.{refusal7}
+use Rattle.book_words.specs.Layout.{slotsMost, keysFrom, blocksFrom, keyAt, blockAt}
 use Rattle.book.specs.Book.{emptySlot, askResult, noticeSays, shares, sharedFrom, touched, struckFrom}
-use Rattle.book_history.specs.History.{run}
 use Rattle.book_history.specs.Claims.{StrikesExactly}
 use Rattle.book_history.specs.Uses.{EmptyNoticeStrikesNothing, EndsShared, NothingHeldAtFirst, FirstSlotFirst, NeverRefusedSeven}
 use Rattle.book_history.proofs.Claims.{strikes-exactly, shares-means, lowest-empty, starts-empty, never-malformed}
@@ -51,7 +49,7 @@ none-shared start l (suc m) j =
 
 none-touched : (ws : List ℕ) (start i : ℕ) → touched ws start 0 i ≡ false
 unfolding touched
-none-touched ws start i = rw (none-shared start (listOf (blockAt ws i) .piece) (min (listOf (blockAt ws i) .count) 4) 0) (and-false (not (eqb (keyAt ws i) 0)))
+none-touched ws start i = rw (none-shared start (listOf (blockAt ws i) .piece) (min (listOf (blockAt ws i) .count) piecesMost) 0) (and-false (not (eqb (keyAt ws i) 0)))
   where
     and-false : (b : Bool) → (b && false) ≡ false
     and-false true = refl

@@ -27,7 +27,7 @@ use Rattle.lookup.specs.Lookup.{lookedUp}
 use Rattle.lookup.specs.declared.Looked.{Looked}
 use Rattle.lookup.specs.declared.Answer.{Answer}
 use Rattle.lookup.specs.declared.Answer.the-variants as looked
-use Rattle.book_words.specs.Layout.{slotsMost, bookWords, keysFrom, slotsOf, keyAt, blockAt, openedWith}
+use Rattle.book_words.specs.Layout.{slotsMost, keysFrom, slotsOf, keyAt, blockAt, openedWith}
 use Rattle.book_words.specs.Malformed.{refusal7}
 use Rattle.book.specs.Book.{Opened, Asks, Noticed, slotOf, emptySlot, askResult, askBook, newLookup, shares, touched, struckFrom}
 use Rattle.book_history.specs.History.{State, Step, run, Clean, Began}

@@ -11,7 +11,7 @@ use lib.ListN.{getD, length}
 use Rattle.bit_fields.specs.Choice.{if_then_else_}
 use Rattle.ids.specs.declared.Request.{Request}
 use Rattle.placed.specs.From.{tab}
-use Rattle.registers.specs.Words.{Narrow}
+use Rattle.registers.specs.Words.{registerWords, wordsOfRegisters}
 use Rattle.registers.specs.declared.Registers.{Registers}
 use Rattle.memory_image.specs.Extent.{extentOf}
 use Rattle.memory_image.specs.declared.Piece.{Piece}
@@ -75,6 +75,10 @@ run base s (t ∷ ts) = run base (step base s t) ts
 -- no address of a list is dirty
 abbrev pub Clean : (ℕ → Bool) → Pieces → Type 0
 Clean dirty l = EachPiece (λ p. (a : ℕ) → p .address ≤ a → a < p .address + p .length → dirty a ≡ false) l
+
+-- the registers of 32 bits have no more, as their type says
+pub record Narrow (r : Registers) : Type 0 where
+  pub each : (j : ℕ) → j < registerWords → getD (wordsOfRegisters r) j 0 < 2 ^ 32
 
 -- the book was opened, and accepted, with today's memory extent; what was edited before doesn't matter
 pub record Began (r : Registers) (base : ℕ) (s : State) : Type 0 where

@@ -6,7 +6,7 @@
 --     FirstSlotFirst                LowestEmpty: a slot that is empty below held ones is the next to be filled
 --     NeverRefusedSeven             NeverMalformed: after any history, refusal 7 isn't given
 -- Assumes: nothing.
-use Prim.Native.Nat.{ℕ, _+_, _-_, _^_, _≤_, _<_}
+use Prim.Native.Nat.{ℕ, _+_, _-_, _≤_, _<_}
 use mathlib.Core.Path.{_≡_}
 use mathlib.Core.Bool.{true, false}
 use mathlib.Core.List.{List}

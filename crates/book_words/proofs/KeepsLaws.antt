@@ -3,7 +3,7 @@
 --     opened-empty, opened-length, opened-registers, open-well     a book just opened
 --     kept-well         a slot filled
 -- Assumes: nothing.
-use Prim.Native.Nat.{ℕ, _+_, _-_, _*_, _%_, _^_, _≤_, _<_}
+use Prim.Native.Nat.{ℕ, _+_, _-_, _*_, _≤_, _<_, _^_}
 use native.Mathlib.Omega.{arith}
 use native.Mathlib.Nat.{mod-eq-of-lt}
 use mathlib.Core.Path.{_≡_, refl, sym, ap, _∙_}
@@ -19,10 +19,11 @@ use Rattle.ids.specs.Packing.{unpacked}
 use Rattle.ids.specs.declared.Request.{Request}
 use Rattle.ids.specs.declared.Unpacked.the-variants.{Is}
 use Rattle.registers.specs.Sizes.{refusal1}
-use Rattle.registers.specs.Words.{registerWords, registersFrom, wordsOfRegisters, Narrow}
+use Rattle.registers.specs.Words.{registerWords, registersFrom, wordsOfRegisters}
 use Rattle.registers.specs.declared.Registers.{Registers}
 use Rattle.memory_image.specs.Extent.{Extent, refusal2}
-use Rattle.answer_words.specs.AnswerWords.{answerWords, stands}
+use Rattle.answers.specs.Layout.{answerWords}
+use Rattle.answer_words.specs.AnswerWords.{stands}
 use Rattle.book_words.specs.Layout.{
   slotsMost,
   bookWords,
@@ -50,7 +51,7 @@ module _ (ws ws′ : List ℕ) (same : (x : ℕ) → x < keysFrom → getD ws′
   registers-same =
       rw (
         values-same (λ j. lowWord (getD ws′ (registersAt + j) 0)) (λ j. lowWord (getD ws (registersAt + j) 0)) registerWords 0
-        (λ j low high. ap lowWord (same (registersAt + j) (omega arith))),
+            (λ j low high. ap lowWord (same (registersAt + j) (omega arith))),
         same strtabBaseAt (omega arith),
       )
 
@@ -150,13 +151,13 @@ module _ (r : Registers) (e : Extent) (slots : ℕ) where
   unfolding openedWith
   opened-length = refl
 
-  module _ (narrow : Narrow r) where
+  module _ (narrow : (j : ℕ) → j < registerWords → getD (wordsOfRegisters r) j 0 < 2 ^ 32) where
     pub opened-registers : registersOf (openedWith r e slots) ≡ r
     unfolding registersOf openedWith
     opened-registers =
         ap (λ (words : List ℕ). registersFrom words (r .«strtab_base»))
         (values-same (λ j. lowWord (getD (openedWith r e slots) (registersAt + j) 0)) (λ j. getD (wordsOfRegisters r) j 0) registerWords 0
-        (λ j low high. rw (opened-register j (omega arith)) (mod-eq-of-lt (narrow .each j (omega arith))))
+        (λ j low high. rw (opened-register j (omega arith)) (mod-eq-of-lt (narrow j (omega arith))))
         ∙ values-list (wordsOfRegisters r))
 
     pub open-well : refusal1 r ≡ false → refusal2 e ≡ false → (slots ≡ 0 → ⊥) → slots ≤ slotsMost → Well (openedWith r e slots)
@@ -167,7 +168,7 @@ module _ (r : Registers) (e : Extent) (slots : ℕ) where
           few = few;
           fit =
               all-every (registerFits (openedWith r e slots)) registerWords 0
-              (λ j low high. rw (opened-register j (omega arith)) (lt-ltb _ _ (narrow .each j (omega arith))));
+              (λ j low high. rw (opened-register j (omega arith)) (lt-ltb _ _ (narrow j (omega arith))));
           registers = rw opened-registers first;
           extent = second;
           slots = λ i small. held-from (openedWith r e slots) i small (λ held. absurd (held (opened-empty i small)));

@@ -3,18 +3,18 @@
 --     block-same                           a block is read from its own words alone
 --     kept-length, kept-before, kept-key, kept-key-other, kept-block, kept-block-other    a slot filled
 -- Assumes: nothing.
-use Prim.Native.Nat.{ℕ, zero, suc, _+_, _*_, _≤_, _<_}
+use Prim.Native.Nat.{ℕ, zero, suc, _+_, _≤_, _<_}
 use native.Mathlib.Omega.{arith}
 use mathlib.Core.Path.{_≡_, refl, sym, ap, _∙_}
 use mathlib.Core.Bool.{Bool, true, false}
-use mathlib.Core.List.{List, [], _∷_}
+use mathlib.Core.List.{List}
 use borrow.Author.Tests.{eqb-true, eqb-false, ltb-true, ltb-false}
 use lib.Dec.{eqb, ltb}
 use lib.ListN.{length, getD, set, length-set}
 use lib.Seq.{getD-set-same, getD-set-other}
 use Rattle.placed.specs.From.{from}
 use Rattle.placed.proofs.FromLaws.{values-same, values-list}
-use Rattle.answer_words.specs.AnswerWords.{answerWords}
+use Rattle.answers.specs.Layout.{answerWords}
 use Rattle.book_words.specs.Layout.{slotsMost, bookWords, keysFrom, blocksFrom, blockFrom, keyAt, blockAt, copied, keptAt}
 
 -- words written from a place on

@@ -1,16 +1,15 @@
 -- Refusal 7, by the tests that the code makes.
 --     slot-empty, slot-past, slot-none, slot-twice, slot-answer     one slot
---     few-slots                  a book that is not refused has at most slotsMost slots
+--     few-slots, slot-below      a book that is not refused has at most slotsMost slots
 --     bad-none, bad-many, bad-word, bad-registers, bad-extent, bad-slots     the row
 -- Assumes: nothing.
-use Prim.Native.Nat.{ℕ, _+_, _-_, _≤_, _<_}
+use Prim.Native.Nat.{ℕ, _-_, _≤_, _<_}
 use native.Mathlib.Omega.{arith}
-use mathlib.Core.Path.{_≡_, refl, sym, ap, _∙_}
-use mathlib.Core.Bool.{Bool, true, false, not, _&&_}
+use mathlib.Core.Path.{_≡_, refl, sym, _∙_}
+use mathlib.Core.Bool.{Bool, true, false, not}
 use mathlib.Core.List.{List}
 use borrow.Author.Tests.{eq-eqb, ne-eqb, lt-ltb, le-ltb, le-leb, lt-leb, ltb-false, not-true, not-false}
 use lib.Dec.{eqb, ltb}
-use lib.ListN.{getD}
 use Rattle.number_laws.proofs.Tests.{not-both}
 use Rattle.bit_fields.specs.Choice.{if_then_else_}
 use Rattle.ids.specs.Packing.{unpacked}

@@ -6,7 +6,7 @@
 -- Assumes: nothing.
 use Prim.Native.Nat.{ℕ, _+_, _-_, _*_, _≤_, _<_}
 use native.Mathlib.Omega.{arith}
-use mathlib.Core.Path.{_≡_, refl, sym, ap, _∙_}
+use mathlib.Core.Path.{_≡_, refl, _∙_}
 use mathlib.Core.Bool.{Bool, not, _&&_}
 use mathlib.Core.List.{List, [], _∷_, _++_}
 use lib.Dec.{eqb}
@@ -19,7 +19,7 @@ use Rattle.placed.proofs.FilledLaws.{Filled, filled-all, value-put, values-put}
 use Rattle.registers.specs.Words.{registerWords, registersFrom, wordsOfRegisters}
 use Rattle.registers.specs.declared.Registers.{Registers}
 use Rattle.memory_image.specs.Extent.{Extent}
-use Rattle.answer_words.specs.AnswerWords.{answerWords}
+use Rattle.answers.specs.Layout.{answerWords}
 use Rattle.book_words.specs.Layout.{
   slotsMost,
   bookWords,

@@ -19,7 +19,7 @@ use Rattle.placed.specs.From.{tab}
 use Rattle.registers.specs.Words.{registerWords, registersFrom, wordsOfRegisters}
 use Rattle.registers.specs.declared.Registers.{Registers}
 use Rattle.memory_image.specs.Extent.{Extent}
-use Rattle.answer_words.specs.AnswerWords.{answerWords}
+use Rattle.answers.specs.Layout.{answerWords}
 
 abbrev pub slotsMost : ℕ
 slotsMost = 64

@@ -2,10 +2,10 @@
 // Meets specs/Layout.antt; `find` is `firstFrom` of specs/Malformed.antt.
 ghost use mathlib.Core.Path.{_≡_};
 ghost use Prim.Native.Nat.{_+_, _≤_, _<_};
-ghost use Rattle.answer_words.specs.AnswerWords.{answerWords};
+ghost use Rattle.answers.specs.Layout.{answerWords};
 ghost use Rattle.book_words.specs.Layout.{blockAt, bookWords, copied, keptAt, lowWord, openedWith, otherExtent, registersOf, slotsMost};
 ghost use Rattle.book_words.specs.Malformed.{firstFrom};
-use answer_words::ANSWER_WORDS;
+use answers::ANSWER_WORDS;
 use registers::REGISTER_WORDS;
 use registers::Registers;
 
@@ -38,10 +38,10 @@ pub fn fill(book: &mut [u64; BOOK_WORDS], registers: Registers, base: u64, lengt
     let words = registers.words();
     *book = [0u64; BOOK_WORDS];
     book[0] = slots;
-    let mut j: usize = 0;
-    while j < REGISTER_WORDS {
-        book[REGISTERS_AT + j] = words[j] as u64;
-        j += 1;
+    let mut k: usize = 0;
+    while k < REGISTER_WORDS {
+        book[REGISTERS_AT + k] = words[k] as u64;
+        k += 1;
     }
     book[STRTAB_BASE_AT] = registers.strtab_base;
     book[BASE_AT] = base;
@@ -111,10 +111,10 @@ fn copy(book: &mut [u64; BOOK_WORDS], b: usize, block: &[u64; ANSWER_WORDS])
     requires { ⌜ b + answerWords ≤ bookWords ⌝ }
     ensures { λ _. ⌜ now (book .exit) ≡ copied (now (book .entry)) b (now (block .entry)) answerWords 0 ⌝ }
 {
-    let mut j: usize = 0;
-    while j < ANSWER_WORDS {
-        book[b + j] = block[j];
-        j += 1;
+    let mut k: usize = 0;
+    while k < ANSWER_WORDS {
+        book[b + k] = block[k];
+        k += 1;
     }
 }
 

@@ -1,5 +1,5 @@
 // Refusal 7: whether the words are those of a book. Start at `is_malformed`.
-// Meets specs/Malformed.antt.
+// Meets specs/Malformed.antt; the marks are those of specs/Marks.antt.
 ghost use mathlib.Core.Path.{_≡_};
 ghost use Prim.Native.Nat.{_<_};
 ghost use Rattle.book_words.specs.Layout.{keyAt, slotsMost};
@@ -17,6 +17,9 @@ use registers::REGISTER_WORDS;
 
 // The marks of refusal 7's search for equal keys: sixteen places for each slot, so that few keys share one.
 const MARKS: usize = 16 * SLOTS_MOST;
+
+// A key has its stream from bit 21 up.
+const BELOW_STREAM: u64 = 1 << 21;
 
 // Whether the words of the registers of 32 bits have no more than 32.
 fn registers_fit(book: &[u64; BOOK_WORDS]) -> bool
@@ -36,7 +39,7 @@ fn registers_fit(book: &[u64; BOOK_WORDS]) -> bool
 fn mark_of(key: u64) -> usize
     ensures { λ r. ⌜ r ≡ markOf key ⌝ }
 {
-    let mixed = key / 2097152 * 37 + key % 2097152;
+    let mixed = key / BELOW_STREAM * 37 + key % BELOW_STREAM;
     (mixed % (MARKS as u64)) as usize
 }
 
@@ -74,7 +77,7 @@ fn slot_well(book: &[u64; BOOK_WORDS], i: usize, marks: &[u8; MARKS]) -> bool
         return false;
     }
     let block = super::block(book, i);
-    answer_words::is_answer(block)
+    answer_words::is_answer(&block)
 }
 
 // Whether every slot is; the keys of those that were looked at have their marks.

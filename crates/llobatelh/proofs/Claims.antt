@@ -2,26 +2,22 @@
 -- Assumes: nothing.
 use Prim.Native.Nat.{ℕ, _+_, _≤_}
 use native.Mathlib.Omega.{arith}
-use mathlib.Core.Path.{_≡_, refl, sym, ap, _∙_}
+use mathlib.Core.Path.{_≡_, refl, sym, _∙_}
 use mathlib.Core.Bool.{Bool, true, false, not, _&&_}
 use mathlib.Core.List.{List}
 use borrow.Author.Tests.{eqb-true, ltb-true}
 use mathlib.Core.Logic.{_⊎_, inl, inr}
 use lib.Dec.{eqb, ltb}
-use lib.ListN.{length, take, drop}
-use denote.Ref.{RefT, ptr, now}
+use lib.ListN.{length}
 use Rattle.bit_fields.specs.Choice.{if_then_else_}
 use Rattle.ids.specs.Ids.{refusal3}
 use Rattle.ids.specs.declared.Request.{Request}
 use Rattle.registers.specs.Sizes.{refusal1}
-use Rattle.registers.specs.declared.Registers.{Registers}
-use Rattle.memory_image.specs.Extent.{Extent, extentOf, refusal2}
+use Rattle.memory_image.specs.Extent.{extentOf, refusal2}
 use Rattle.memory_image.specs.declared.Fetched.{Fetched}
 use Rattle.memory_image.specs.declared.Fetched.the-variants.{At, Outside}
-use Rattle.answers.specs.declared.Pieces.{Pieces}
 use Rattle.lookup.specs.Lookup.{lookedUp, refusedWith, answered, ruled}
-use Rattle.lookup.specs.Part.{SteHanded, steAt}
-use Rattle.lookup.specs.declared.Answer.{Answer}
+use Rattle.lookup.specs.Part.{steAt}
 use Rattle.lookup.specs.declared.Answer.the-variants as answer
 use Rattle.lookup.specs.declared.Looked.{Looked}
 use Rattle.lookup.proofs.Claims.{refused-exactly}
@@ -41,7 +37,7 @@ use Rattle.book.specs.declared.Reply.the-variants as reply
 use Rattle.book_words.proofs.WellLaws.{well-to}
 use Rattle.report.specs.Report.{reportSays, reportText}
 use Rattle.report.specs.declared.Written.the-variants as written
-use Rattle.llobatelh.specs.Calls.{noPart, partSays, asked}
+use Rattle.llobatelh.specs.Calls.{noPart, partSays}
 use Rattle.llobatelh.specs.Claims.{
   PartLies,
   PartIsThatVery,

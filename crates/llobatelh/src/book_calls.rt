@@ -83,7 +83,11 @@ pub extern "C" fn llobatelh_notice(book: &mut [u64; BOOK_WORDS], start: u64, siz
 
 // Writes a book as text: 0 and the text's length; or refusal 7 or 8.
 #[no_mangle]
-pub extern "C" fn llobatelh_report(book: &[u64; BOOK_WORDS], out: &mut [u8], length: &mut [u64; 1]) -> u64
+pub extern "C" fn llobatelh_report(
+    book: &[u64; BOOK_WORDS],
+    out: &mut [u8],
+    length: &mut [u64; 1],
+) -> u64
     ensures { λ r. ⌜ ReportsBook (now (book .entry)) (now (out .entry)) (now (length .entry)) r (now (out .exit)) (now (length .exit)) ⌝ }
 {
     let written = report::report(book, out);

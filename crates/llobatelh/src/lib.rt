@@ -70,7 +70,11 @@ pub extern "C" fn llobatelh_ste_part(
 
 // Whether an abort's event is recorded: 1 or 0.
 #[no_mangle]
-pub extern "C" fn llobatelh_is_recorded(registers: &[u32; REGISTER_WORDS], strtab_base: u64, event: u64) -> u64
+pub extern "C" fn llobatelh_is_recorded(
+    registers: &[u32; REGISTER_WORDS],
+    strtab_base: u64,
+    event: u64,
+) -> u64
     ensures { λ r. ⌜ r ≡ recordedSays (registersFrom (now (registers .entry)) «strtab_base») event ⌝ }
 {
     let regs = handed::registers(registers, strtab_base);

@@ -5,12 +5,12 @@
 -- Assumes: nothing.
 use Prim.Native.Nat.{ℕ, _+_, _-_, _≤_, _<_}
 use native.Mathlib.Omega.{arith}
-use native.Mathlib.Nat.{sub-zero, zero-add}
-use mathlib.Core.Path.{_≡_, refl, sym, ap, _∙_}
-use mathlib.Core.List.{List, [], _∷_, _++_}
-use lib.ListN.{length, set, replicate, length-replicate}
+use native.Mathlib.Nat.{sub-zero}
+use mathlib.Core.Path.{_≡_, refl, sym, _∙_}
+use mathlib.Core.List.{List, _++_}
+use lib.ListN.{set, replicate, length-replicate}
 use Rattle.placed.specs.From.{valuesFrom}
-use Rattle.placed.specs.Placed.{Left, placed}
+use Rattle.placed.specs.Placed.{Left}
 use Rattle.placed.proofs.FromLaws.{values-end, values-step, values-length}
 use Rattle.placed.proofs.PlacedLaws.{placed-whole}
 use Rattle.placed.proofs.LeftLaws.{left-all, left-one, left-placed}

@@ -1,12 +1,12 @@
 -- What a loop that puts a list piece by piece keeps.
 --     left-all      before it: all is left
---     left-more     a piece was put: the rest is left
+--     left-more, left-one     a piece was put, or one value: the rest is left
 --     left-placed, left-end     nothing is left: all is placed, and the place is the end
 --     left-room     there is room for what is left
 -- Assumes: nothing.
 use mathlib.Core.Path.{_≡_, refl, sym, ap, _∙_}
 use mathlib.Core.List.{List, [], _∷_, _++_}
-use Prim.Native.Nat.{ℕ, _+_, _≤_, _<_}
+use Prim.Native.Nat.{ℕ, _+_, _≤_}
 use native.Mathlib.Omega.{arith}
 use lib.ListN.{length, length-append, set}
 use Rattle.placed.specs.Placed.{placed, Left}

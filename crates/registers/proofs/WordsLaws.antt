@@ -1,10 +1,15 @@
 -- The registers as words, and back.
 --     words-count        how many words there are
 --     words-back         the registers from their own words
+--     narrow-all         words of 32 bits, by a test of each
 -- Assumes: nothing.
-use Prim.Native.Nat.{ℕ}
+use Prim.Native.Nat.{ℕ, _<_, _^_}
 use mathlib.Core.Path.{_≡_, refl}
-use lib.ListN.{length}
+use mathlib.Core.Bool.{true}
+use borrow.Author.Tests.{ltb-true}
+use lib.Dec.{ltb}
+use lib.ListN.{length, getD}
+use Rattle.number_laws.proofs.Tables.{every, at-each}
 use Rattle.registers.specs.Words.{registerWords, registersFrom, wordsOfRegisters}
 use Rattle.registers.specs.declared.Registers.{Registers}
 
@@ -14,3 +19,6 @@ module _ (r : Registers) where
 
   pub words-back : registersFrom (wordsOfRegisters r) (r .«strtab_base») ≡ r
   words-back = refl
+
+  pub narrow-all : every (λ x. ltb x (2 ^ 32)) (wordsOfRegisters r) ≡ true → (j : ℕ) → getD (wordsOfRegisters r) j 0 < 2 ^ 32
+  narrow-all all j = ltb-true (getD (wordsOfRegisters r) j 0) (2 ^ 32) (at-each (λ x. ltb x (2 ^ 32)) (wordsOfRegisters r) j 0 all refl)

@@ -2,10 +2,9 @@
 --     registerWords        how many registers have 32 bits
 --     registersFrom        the registers, from their words
 --     wordsOfRegisters     the words of those of 32 bits
---     Narrow               none of them has more than 32 bits
 -- Ours: the order.
 -- Assumes: nothing.
-use Prim.Native.Nat.{ℕ, _<_, _^_}
+use Prim.Native.Nat.{ℕ}
 use mathlib.Core.List.{List, [], _∷_}
 use lib.ListN.{getD}
 use Rattle.registers.specs.declared.Registers.{Registers}
@@ -30,7 +29,3 @@ registersFrom words base =
 abbrev pub wordsOfRegisters : Registers → List ℕ
 wordsOfRegisters r =
     r .idr0 ∷ (r .idr1 ∷ (r .idr5 ∷ (r .cr0 ∷ (r .cr2 ∷ (r .gbpa ∷ (r .«strtab_base_cfg» ∷ []))))))
-
--- the registers of 32 bits have no more, as their type says
-pub record Narrow (r : Registers) : Type 0 where
-  pub each : (j : ℕ) → j < registerWords → getD (wordsOfRegisters r) j 0 < 2 ^ 32

@@ -1,6 +1,6 @@
 -- The claims of specs/Claims.antt, each under its own name.
 -- Assumes: nothing.
-use Prim.Native.Nat.{ℕ, _+_, _≤_, _<_}
+use Prim.Native.Nat.{ℕ, _+_, _≤_}
 use native.Mathlib.Omega.{arith}
 use native.Mathlib.Nat.{zero-add}
 use mathlib.Core.Path.{_≡_, refl, sym, ap, _∙_}
@@ -11,13 +11,11 @@ use lib.Dec.{ltb}
 use lib.ListN.{getD, length}
 use Rattle.bit_fields.specs.Choice.{if_then_else_}
 use Rattle.book_words.specs.Malformed.{refusal7}
-use Rattle.book_history.specs.History.{run}
 use Rattle.book_history.proofs.Claims.{never-malformed}
 use Rattle.placed.specs.Placed.{placed}
 use Rattle.placed.proofs.PlacedLaws.{placed-at, placed-above}
 use Rattle.report.specs.Report.{Reported, ifWritten, reportSays, reportText}
 use Rattle.report.specs.Claims.{OneReport, LaterBytesStay, TextIsThere, OnlyRefusedForRoom}
-use Rattle.report.specs.declared.Written.{Written}
 use Rattle.report.specs.declared.Written.the-variants.{Refused, Length}
 
 pub one-report : OneReport

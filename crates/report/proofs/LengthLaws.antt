@@ -43,12 +43,10 @@ use Rattle.report_cells.specs.Cells.{
   keptText,
   cellText,
   columnsOf,
-  endingOf,
   cellsFrom,
   lineText,
 }
 use Rattle.report_cells.specs.declared.Entry.{Entry}
-use Rattle.report_cells.specs.declared.Line.{Line}
 use Rattle.report_cells.specs.declared.Line.the-variants as line
 use Rattle.report.specs.Length.{slotDigits, outcomeMost, lineMost, reportMost}
 use Rattle.report.specs.Report.{lineFor, lineAt, linesFrom, reportText}

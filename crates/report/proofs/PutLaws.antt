@@ -10,7 +10,7 @@ use native.Mathlib.Nat.{add-zero, sub-zero}
 use mathlib.Core.Path.{_≡_, refl, sym, ap, _∙_}
 use mathlib.Core.List.{List, [], _∷_, _++_}
 use lib.ListN.{getD, set, length, length-append, length-set}
-use Rattle.placed.specs.Placed.{Left, placed}
+use Rattle.placed.specs.Placed.{Left}
 use Rattle.placed.proofs.LeftLaws.{left-all, left-room, left-more, left-one, left-placed, left-end}
 use Rattle.placed.specs.From.{from}
 use Rattle.placed.proofs.FromLaws.{values-length}

@@ -4,9 +4,9 @@
 -- Assumes: nothing.
 use Prim.Native.Nat.{ℕ, _+_, _-_, _≤_, _<_}
 use native.Mathlib.Omega.{arith}
-use mathlib.Core.Path.{_≡_, refl, sym, ap, _∙_}
+use mathlib.Core.Path.{_≡_, sym, ap, _∙_}
 use mathlib.Core.Bool.{Bool, true, false}
-use mathlib.Core.List.{List, [], _∷_, _++_}
+use mathlib.Core.List.{List, _++_}
 use borrow.Author.Tests.{eq-eqb, ne-eqb, lt-ltb, le-ltb}
 use lib.ListN.{length, length-append}
 use Rattle.ids.specs.Packing.{unpacked}
@@ -21,7 +21,6 @@ use Rattle.book_words.specs.Malformed.{refusal7}
 use Rattle.placed.specs.Placed.{placed}
 use Rattle.placed.proofs.PlacedLaws.{placed-length, placed-then}
 use Rattle.report_cells.specs.Cells.{lineText}
-use Rattle.report_cells.specs.declared.Line.{Line}
 use Rattle.report_cells.specs.declared.Line.the-variants as line
 use Rattle.report.specs.Report.{lineAt, lineFor, linesFrom, reportText, reportSays, Reported, Put}
 use Rattle.report.specs.declared.Written.the-variants.{Refused, Length}

@@ -3,22 +3,20 @@
 --     lines-end, lines-step                      the lines of the slots
 --     cells-summed, cells-done, lines-summed, lines-done     the loops that count bytes
 --     whole-line, line-counted, text-counted     at the start of a loop
---     spelled-length, cells-length, columns-few  how many bytes and cells there are
+--     spelled-length, cells-length, columns-few, few-more  how many bytes and cells there are
 -- Assumes: nothing.
-use Prim.Native.Nat.{ℕ, zero, suc, _+_, _-_, _*_, _≤_, _<_}
+use Prim.Native.Nat.{ℕ, _+_, _-_, _*_, _≤_, _<_}
 use native.Mathlib.Omega.{arith}
 use native.Mathlib.Nat.{sub-zero, zero-add}
-use mathlib.Core.Path.{_≡_, refl, sym, ap, _∙_}
+use mathlib.Core.Path.{_≡_, sym, ap, _∙_}
 use mathlib.Core.List.{List, [], _∷_, _++_}
 use lib.ListN.{getD, length, length-append}
 use Rattle.number_laws.proofs.Scans.{left-none, left-one}
 use Rattle.book_words.specs.Layout.{slotsOf}
-use Rattle.placed.specs.From.{from}
 use Rattle.placed.proofs.FromLaws.{values-length}
 use Rattle.report_cells.specs.Text.{Spells, cellMost}
 use Rattle.report_cells.specs.Cells.{columns, cellText, cellsFrom, columnsOf, endingOf, lineText}
 use Rattle.report_cells.specs.declared.Cell.{Cell}
-use Rattle.report_cells.specs.declared.Entry.{Entry}
 use Rattle.report_cells.specs.declared.Line.{Line}
 use Rattle.report_cells.specs.declared.Line.the-variants.{Nothing, Header, Kept}
 use Rattle.report.specs.Report.{lineAt, linesFrom, reportText}

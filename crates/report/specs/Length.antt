@@ -24,9 +24,8 @@ outcomeMost = length (bytes "unrecorded")
 abbrev pub lineMost : ℕ
 lineMost = slotDigits + streamDigits + substreamDigits + outcomeMost + eventDigits + columns
 
--- the columns' names, with a blank for each byte that follows one
 abbrev pub headerLength : ℕ
-headerLength = length (bytes "slot stream substream outcome event ")
+headerLength = length (bytes "slot\tstream\tsubstream\toutcome\tevent\n")
 
 abbrev pub reportMost : ℕ
 reportMost = headerLength + slotsMost * lineMost

@@ -4,7 +4,6 @@ ghost use mathlib.Core.Path.{_≡_};
 ghost use Prim.Native.Nat.{_+_, _≤_, _<_};
 ghost use lib.ListN.{getD, length};
 ghost use Rattle.book_words.specs.Layout.{slotsMost};
-ghost use Rattle.report_cells.specs.Cells.{lineText};
 ghost use Rattle.report.specs.Report.{Put, Reported, lineAt, linesFrom, reportText};
 use book_words::BOOK_WORDS;
 use book_words::KEYS;
@@ -49,7 +48,7 @@ fn line_at(book: &[u64; BOOK_WORDS], i: usize) -> Line
     let unpacked = Request::unpack(key - 1);
     let registers = book_words::registers_of(book);
     let block = book_words::block(book, i);
-    let outcome = answer_words::outcome_of(block);
+    let outcome = answer_words::outcome_of(&block);
     match unpacked {
         Unpacked::Is(request) => Line::Kept(Entry {
             slot: i as u64,

@@ -4,13 +4,13 @@
 --     Counting, digits-start, digits-more, digits-whole  digits, from the last one on
 --     one-digit, two-digits, small-slot, three-digits   a number in decimal
 -- Assumes: nothing.
-use Prim.Native.Nat.{ℕ, suc, _+_, _-_, _/_, _%_, _≤_, _<_}
+use Prim.Native.Nat.{ℕ, suc, _+_, _-_, _/_, _≤_, _<_}
 use native.Mathlib.Omega.{arith}
 use native.Mathlib.Nat.{sub-zero, sub-self, zero-add}
 use mathlib.Core.Path.{_≡_, refl, sym, ap, _∙_}
 use mathlib.Core.List.{List, [], _∷_, _++_, append-assoc, append-nil}
 use borrow.Author.Tests.{lt-ltb, le-ltb}
-use lib.ListN.{getD, set, length, length-set, length-replicate, replicate}
+use lib.ListN.{getD, set, length, length-set, replicate}
 use lib.Seq.{getD-set-same, getD-set-other}
 use Rattle.placed.specs.From.{valuesFrom, from}
 use Rattle.placed.specs.Placed.{Left, placed}

@@ -5,7 +5,7 @@
 --     Spells            what a cell of the code says
 -- Assumes: nothing.
 use Prim.Native.Nat.{ℕ, zero, suc, _/_, _%_, _≤_}
-use Prim.Native.Char.{Char, code}
+use Prim.Native.Char.{code}
 use Prim.Native.String.{String, [] as end, _∷_ as _before_}
 use mathlib.Core.Path.{_≡_}
 use mathlib.Core.List.{List, [], _∷_, _++_}

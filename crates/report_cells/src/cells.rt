@@ -1,6 +1,5 @@
 // The texts of the cells: the columns' names, and what a held slot says of its request and its outcome.
 // Meets specs/Cells.antt.
-ghost use mathlib.Core.Path.{_≡_};
 ghost use Rattle.report_cells.specs.Text.{Spells};
 ghost use Rattle.report_cells.specs.Cells.{abortText, eventText, headerText, outcomeText, streamText, substreamText};
 use super::Cell;

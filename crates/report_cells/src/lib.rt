@@ -1,7 +1,6 @@
 // What stands in each cell of the report, as bytes. Start at `cell_of`.
 // Meets specs/Cells.antt; the digits and the words are those of specs/Text.antt.
 ghost use mathlib.Core.Path.{_≡_};
-ghost use Prim.Native.Nat.{_≤_};
 ghost use Rattle.report_cells.specs.Text.{Spells};
 ghost use Rattle.report_cells.specs.Cells.{cellText, columnsOf, endingOf, keptText};
 use answers::Outcome;

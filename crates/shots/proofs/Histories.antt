@@ -6,7 +6,7 @@ use mathlib.Core.Path.{_≡_, refl, sym, ap, _∙_, fun-ext, subst}
 use mathlib.Core.Bool.{Bool, true, false, _||_}
 use mathlib.Core.List.{List, [], _∷_}
 use borrow.Author.Tests.{eqb-true, ne-eqb}
-use lib.Dec.{eqb, lit<}
+use lib.Dec.{eqb}
 use lib.ListN.{length, getD}
 use Rattle.bit_fields.specs.Choice.{if_then_else_}
 use Rattle.bit_fields.specs.Bits.{low, high, field, inBits}
@@ -15,6 +15,7 @@ use Rattle.ids.specs.Packing.{packed, unpacked}
 use Rattle.ids.specs.declared.Request.{Request}
 use Rattle.ids.specs.declared.Substream.the-variants.{Without}
 use Rattle.ids.specs.declared.Unpacked.the-variants.{Is}
+use Rattle.registers.proofs.WordsLaws.{narrow-all}
 use Rattle.registers.specs.Sizes.{refusal1, sizeOf, oasSize}
 use Rattle.memory_image.specs.Extent.{refusal2, fetched}
 use Rattle.memory_image.specs.Rule.{run, andThen}
@@ -39,7 +40,7 @@ use Rattle.book_words.specs.Malformed.{firstFrom, slotWell, refusal7}
 use Rattle.book.specs.Book.{openSays, askBook, askResult, emptySlot, slotOf, ifDone, newLookup, shares, sharedFrom, touched, strike, struckFrom, noticeSays}
 use Rattle.book.specs.declared.Reply.the-variants.{Refused}
 use Rattle.book_history.specs.History.{Began, Clean, noticedAt, step, run as ran, notice, edit}
-use Rattle.report_cells.specs.Text.{bytes, decimalText, digits}
+use Rattle.report_cells.specs.Text.{bytes, decimalText, slotText, digits}
 use Rattle.report_cells.specs.Cells.{lineText, cellsFrom, columnsOf, endingOf, cellText, headerText, keptText, streamText, substreamText, outcomeText, abortText, eventText}
 use Rattle.report.specs.Report.{reportText, linesFrom, lineAt, lineFor}
 use Rattle.shots.specs.Shots.{plain, figure, of, piece, byteOf, clip, whole}
@@ -133,7 +134,7 @@ computed =
 
 module _ (a : 188 < 2 ^ 32) (b : 256 < 2 ^ 32) where
   two-words : twoHeld a b .words ≡ held2
-  unfolding held1 held2 openedWith registersOf
+  unfolding held1 held2 openedWith registersOf valuesFrom
   two-words =
       ap (λ (ws : List ℕ). askBook ws 0 (length benchMemory) (of 256 Without) (newLookup ws 0 benchMemory (of 256 Without)))
       (asked (openedWith plain whole 2) (of 188 Without) says-188 refl looked-188)
@@ -178,7 +179,7 @@ began : Began plain 0 (opened 2)
 unfolding openSays refusal1 refusal2 sizeOf oasSize
 began =
     record {
-      narrow = record { idr0 = lit< tt; idr1 = lit< tt; idr5 = lit< tt; cr0 = lit< tt; cr2 = lit< tt; gbpa = lit< tt; strtab-base-cfg = lit< tt };
+      narrow = record { each = λ j few. narrow-all plain refl j };
       slots = 2;
       accepted = rw (tab-length 0x10000 (byteOf figure));
       opened = rw (tab-length 0x10000 (byteOf figure));
@@ -248,7 +249,7 @@ module _ (b : 256 < 2 ^ 32) where
       ∙ ap (λ (m : List ℕ). lookedUp plain 0 m (of 256 Without)) same-memory ∙ looked-now
 
   alone-words : (other : List ℕ) → ran 0 (opened 2) (atEdges b other) .words ≡ alone
-  unfolding alone openedWith registersOf
+  unfolding alone openedWith registersOf valuesFrom
   alone-words other = asked (openedWith plain whole 2) (of 256 Without) (says (Bypass 0x2f00)) refl looked-256
 
   pub edges-leave-it : EdgesLeaveIt b
@@ -281,11 +282,11 @@ unfolding askBook refusal7 allFrom slotWell firstFrom registersOf openedWith blo
 plain-alone = refl
 
 sample-text : reportText sampled ≡ bytes "slot\tstream\tsubstream\toutcome\tevent\n0\t00000100\t-\tbypass\t-\n1\t00000104\t-\tabort\t02\n"
-unfolding askBook refusal7 allFrom slotWell firstFrom registersOf openedWith blockAt valuesFrom copied packed unpacked laidOut wordsOf outcomeOf listOf stands refusal1 refusal2 refusal3 properOutcome listedEvent properPieces piecesOf sizeOf oasSize says-260 alone sampled reportText linesFrom lineAt lineFor lineText cellsFrom columnsOf endingOf cellText headerText keptText streamText substreamText outcomeText abortText eventText decimalText digits recorded
+unfolding askBook refusal7 allFrom slotWell firstFrom registersOf openedWith blockAt valuesFrom copied packed unpacked laidOut wordsOf outcomeOf listOf stands refusal1 refusal2 refusal3 properOutcome listedEvent properPieces piecesOf sizeOf oasSize says-260 alone sampled reportText linesFrom lineAt lineFor lineText cellsFrom columnsOf endingOf cellText headerText keptText slotText streamText substreamText outcomeText abortText eventText decimalText digits recorded
 sample-text = refl
 
 pub sample-report : SampleReport
-unfolding alone sampled openedWith registersOf
+unfolding alone sampled openedWith registersOf valuesFrom
 sample-report b d =
     ap reportText
     (ap (λ (ws : List ℕ). askBook ws 0 (length benchMemory) (of 260 Without) (newLookup ws 0 benchMemory (of 260 Without)))

@@ -33,7 +33,6 @@ fn numbers_are_the_headers() {
         ("MEMORY_MOST", MEMORY_MOST as u64),
         ("SLOTS_MOST", SLOTS_MOST),
         ("PIECES_MOST", PIECES_MOST as u64),
-        ("REPORT_MOST", REPORT_MOST as u64),
         ("STE_BYTES", STE_BYTES as u64),
         ("REGISTERS", REGISTERS as u64),
         ("C_BAD_STREAMID", events[0]),
@@ -62,6 +61,7 @@ fn numbers_are_the_headers() {
         assert_eq!(defined(&header, name), number, "{name}");
     }
     assert_eq!(header::NO_PART, u64::MAX);
+    assert_eq!(REPORT_MOST as u64, 36 + 32 * SLOTS_MOST);
     assert_eq!(header::book_answer(SLOTS_MOST), BOOK_WORDS as u64);
     assert_eq!(
         header::answer_address(header::PIECES_MOST),

@@ -5,9 +5,6 @@ use Rattle.book.proofs.NoticeLaws.{notice-malformed, notice-start, noti
 use Rattle.book.proofs.notice.Statement.{statement}
 use Rattle.book.proofs.notice.Tie as tie
 
-is-malformed-requires : tie.Need-is-malformed-requires
-is-malformed-requires c κs = search needs
-
 returns : tie.Need-returns
 returns c = search (needs, notice-malformed)
 
@@ -17,13 +14,16 @@ returns-2 c = search (needs, notice-start)
 returns-3 : tie.Need-returns-3
 returns-3 c = search (needs, notice-end)
 
-strike-all-requires : tie.Need-strike-all-requires
-strike-all-requires c κs = search needs
-
 returns-4 : tie.Need-returns-4
 returns-4 c = search (needs, notice-done)
 
 pub notice-spec : {M : Type 1} → statement M
 notice-spec =
     tie.close
-    (tie.spec is-malformed-requires returns returns-2 returns-3 strike-all-requires returns-4)
+    (tie.spec
+    (λ c κs. search needs)
+    returns
+    returns-2
+    returns-3
+    (λ c κs. search needs)
+    returns-4)

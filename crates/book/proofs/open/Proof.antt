@@ -5,14 +5,8 @@ use Rattle.book.proofs.AskLaws.{open-first, open-second, open-none, ope
 use Rattle.book.proofs.open.Statement.{statement}
 use Rattle.book.proofs.open.Tie as tie
 
-refused-requires : tie.Need-refused-requires
-refused-requires c κs = search needs
-
 returns : tie.Need-returns
 returns c = search (needs, open-first)
-
-refused-requires-2 : tie.Need-refused-requires-2
-refused-requires-2 c κs = search needs
 
 returns-2 : tie.Need-returns-2
 returns-2 c = search (needs, open-second)
@@ -23,9 +17,6 @@ returns-3 c = search (needs, open-none)
 returns-4 : tie.Need-returns-4
 returns-4 c = search (needs, open-many)
 
-fill-requires : tie.Need-fill-requires
-fill-requires c κs = search needs
-
 returns-5 : tie.Need-returns-5
 returns-5 c = search (needs, open-done)
 
@@ -33,11 +24,11 @@ pub open-spec : {M : Type 1} → statement M
 open-spec =
     tie.close
     (tie.spec
-    refused-requires
+    (λ c κs. search needs)
     returns
-    refused-requires-2
+    (λ c κs. search needs)
     returns-2
     returns-3
     returns-4
-    fill-requires
+    (λ c κs. search needs)
     returns-5)

@@ -6,7 +6,7 @@ use Prim.Native.Nat.{_+_, _-_, _≤_}
 use mathlib.Core.Path.{_≡_}
 use lib.ListN.{getD}
 use Rattle.placed.proofs.FilledLaws.{Filled, filled-none, filled-more}
-use Rattle.answer_words.specs.AnswerWords.{answerWords}
+use Rattle.answers.specs.Layout.{answerWords}
 use Rattle.book_words.specs.Layout.{blockFrom}
 use Rattle.book_words.proofs.WordsLaws.{block-is}
 use Rattle.book_words.proofs.block.Statement.{statement}

@@ -3,7 +3,7 @@
 use native.Mathlib.Omega.{arith}
 use Prim.Native.Nat.{_≤_, _-_}
 use mathlib.Core.Path.{_≡_, refl, sym, _∙_}
-use Rattle.answer_words.specs.AnswerWords.{answerWords}
+use Rattle.answers.specs.Layout.{answerWords}
 use Rattle.book_words.specs.Layout.{copied}
 use Rattle.book_words.proofs.ScanLaws.{copy-step, copy-end}
 use Rattle.book_words.proofs.copy.Statement.{statement}

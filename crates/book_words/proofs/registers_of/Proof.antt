@@ -4,7 +4,7 @@ use borrow.Author.Needs.{needs}
 use native.Mathlib.Omega.{arith}
 use Prim.Native.Nat.{_+_, _-_, _≤_}
 use lib.ListN.{getD}
-use Rattle.placed.proofs.FilledLaws.{Filled, filled-none, filled-more, filled-all}
+use Rattle.placed.proofs.FilledLaws.{Filled, filled-none, filled-more}
 use Rattle.registers.specs.Words.{registerWords}
 use Rattle.book_words.specs.Layout.{registersAt, lowWord}
 use Rattle.book_words.proofs.WordsLaws.{registers-is}

@@ -5,12 +5,6 @@ use Rattle.llobatelh.proofs.CallsLaws.{recorded-so, recorded-not}
 use Rattle.llobatelh.proofs.llobatelh_is_recorded.Statement.{statement}
 use Rattle.llobatelh.proofs.llobatelh_is_recorded.Tie as tie
 
-registers-requires : tie.Need-registers-requires
-registers-requires c κs = search needs
-
-is-recorded-requires : tie.Need-is-recorded-requires
-is-recorded-requires c κs = search needs
-
 returns : tie.Need-returns
 returns c = search (needs, recorded-so)
 
@@ -19,4 +13,9 @@ returns-2 c = search (needs, recorded-not)
 
 pub llobatelh-is-recorded-spec : {M : Type 1} → statement M
 llobatelh-is-recorded-spec =
-    tie.close (tie.spec registers-requires is-recorded-requires returns returns-2)
+    tie.close
+    (tie.spec
+    (λ c κs. search needs)
+    (λ c κs. search needs)
+    returns
+    returns-2)

@@ -5,21 +5,6 @@ use Rattle.llobatelh.proofs.CallsLaws.{part-at, part-none}
 use Rattle.llobatelh.proofs.llobatelh_ste_part.Statement.{statement}
 use Rattle.llobatelh.proofs.llobatelh_ste_part.Tie as tie
 
-registers-requires : tie.Need-registers-requires
-registers-requires c κs = search needs
-
-request-requires : tie.Need-request-requires
-request-requires c κs = search needs
-
-ste-at-requires : tie.Need-ste-at-requires
-ste-at-requires c κs = search needs
-
-enum-known-at : tie.Need-enum-known-at
-enum-known-at c = search needs
-
-enum-told : tie.Need-enum-told
-enum-told c = search needs
-
 returns : tie.Need-returns
 returns c = search (needs, part-at)
 
@@ -30,10 +15,10 @@ pub llobatelh-ste-part-spec : {M : Type 1} → statement M
 llobatelh-ste-part-spec =
     tie.close
     (tie.spec
-    registers-requires
-    request-requires
-    ste-at-requires
-    enum-known-at
-    enum-told
+    (λ c κs. search needs)
+    (λ c κs. search needs)
+    (λ c κs. search needs)
+    (λ c. search needs)
+    (λ c. search needs)
     returns
     returns-2)

@@ -16,29 +16,14 @@ Inv-loop book out₀ at slots to₀ i₀ out to i = (i ≤ slots) × (slots ≤ 
 abbrev μ-loop : tie.MeasureT-loop
 μ-loop book out₀ at slots to₀ i₀ out to i = slots - i
 
-element-copy-out-slots : tie.Need-element-copy-out-slots Inv-loop μ-loop
-element-copy-out-slots c = search needs
-
 loop-holds : tie.Need-loop-holds Inv-loop μ-loop
 loop-holds c = (omega arith, omega arith, search (needs, lines-start))
-
-line-at-requires : tie.Need-line-at-requires Inv-loop μ-loop
-line-at-requires c κs = search needs
 
 put-line-requires : tie.Need-put-line-requires Inv-loop μ-loop
 put-line-requires c κs = search (needs, line-room)
 
-add-i : tie.Need-add-i Inv-loop μ-loop
-add-i c = omega arith
-
-loop-less : tie.Need-loop-less Inv-loop μ-loop
-loop-less c = omega arith
-
 loop-again : tie.Need-loop-again Inv-loop μ-loop
 loop-again c = (omega arith, omega arith, search (needs, line-more))
-
-same-length : tie.Need-same-length Inv-loop μ-loop
-same-length c = search needs
 
 returns : tie.Need-returns Inv-loop μ-loop
 returns c = search (needs, lines-put)
@@ -49,12 +34,12 @@ put-lines-spec =
     (tie.spec
     Inv-loop
     μ-loop
-    element-copy-out-slots
+    (λ c. search needs)
     loop-holds
-    line-at-requires
+    (λ c κs. search needs)
     put-line-requires
-    add-i
-    loop-less
+    (λ c. omega arith)
+    (λ c. omega arith)
     loop-again
-    same-length
+    (λ c. search needs)
     returns)

@@ -6,9 +6,6 @@ use Rattle.report.proofs.ReportLaws.{report-malformed, report-short, he
 use Rattle.report.proofs.report.Statement.{statement}
 use Rattle.report.proofs.report.Tie as tie
 
-is-malformed-requires : tie.Need-is-malformed-requires
-is-malformed-requires c κs = search needs
-
 returns : tie.Need-returns
 returns c = search (needs, report-malformed)
 
@@ -24,9 +21,6 @@ put-line-requires c κs = search (needs, header-room)
 put-lines-requires : tie.Need-put-lines-requires
 put-lines-requires c κs = search (needs, few-slots, lines-room)
 
-same-length : tie.Need-same-length
-same-length c = search needs
-
 returns-3 : tie.Need-returns-3
 returns-3 c = search (needs, report-whole)
 
@@ -34,11 +28,11 @@ pub report-spec : {M : Type 1} → statement M
 report-spec =
     tie.close
     (tie.spec
-    is-malformed-requires
+    (λ c κs. search needs)
     returns
     text-length-requires
     returns-2
     put-line-requires
     put-lines-requires
-    same-length
+    (λ c. search needs)
     returns-3)

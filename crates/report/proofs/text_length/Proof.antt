@@ -19,29 +19,8 @@ Inv-loop book slots sum₀ i₀ sum i = (i ≤ slots) × (slots ≤ slotsMost) �
 abbrev μ-loop : tie.MeasureT-loop
 μ-loop book slots sum₀ i₀ sum i = slots - i
 
-element-copy-out-slots : tie.Need-element-copy-out-slots Inv-loop μ-loop
-element-copy-out-slots c = search needs
-
-line-length-requires : tie.Need-line-length-requires Inv-loop μ-loop
-line-length-requires c κs = search needs
-
 loop-holds : tie.Need-loop-holds Inv-loop μ-loop
 loop-holds c = (omega arith, omega arith, search (needs, text-counted), omega arith)
-
-line-at-requires : tie.Need-line-at-requires Inv-loop μ-loop
-line-at-requires c κs = search needs
-
-line-length-requires-2 : tie.Need-line-length-requires-2 Inv-loop μ-loop
-line-length-requires-2 c κs = search needs
-
-add-sum : tie.Need-add-sum Inv-loop μ-loop
-add-sum c = omega arith
-
-add-i : tie.Need-add-i Inv-loop μ-loop
-add-i c = omega arith
-
-loop-less : tie.Need-loop-less Inv-loop μ-loop
-loop-less c = omega arith
 
 loop-again : tie.Need-loop-again Inv-loop μ-loop
 loop-again c = (omega arith, omega arith, search (needs, lines-summed), omega arith)
@@ -55,13 +34,13 @@ text-length-spec =
     (tie.spec
     Inv-loop
     μ-loop
-    element-copy-out-slots
-    line-length-requires
+    (λ c. search needs)
+    (λ c κs. search needs)
     loop-holds
-    line-at-requires
-    line-length-requires-2
-    add-sum
-    add-i
-    loop-less
+    (λ c κs. search needs)
+    (λ c κs. search needs)
+    (λ c. omega arith)
+    (λ c. omega arith)
+    (λ c. omega arith)
     loop-again
     returns)

@@ -5,7 +5,7 @@ use native.Mathlib.Omega.{arith}
 use Prim.Native.Nat.{_≤_, _-_}
 use native.Mathlib.Nat.{sub-zero}
 use mathlib.Core.Path.{_≡_}
-use Rattle.answers.specs.Pieces.{piecesMost}
+use Rattle.answers.specs.Layout.{piecesMost}
 use Rattle.book.specs.Book.{sharedFrom}
 use Rattle.book.proofs.ScanLaws.{any-none, any-found, any-more}
 use Rattle.book.proofs.strike.any_shares.Statement.{statement}
@@ -17,29 +17,11 @@ Inv-loop start size n piece j₀ j = (j ≤ n) × (n ≤ piecesMost) × (sharedF
 abbrev μ-loop : tie.MeasureT-loop
 μ-loop start size n piece j₀ j = n - j
 
-smaller-requires : tie.Need-smaller-requires Inv-loop μ-loop
-smaller-requires c κs = search needs
-
 loop-holds : tie.Need-loop-holds Inv-loop μ-loop
 loop-holds c = (omega arith, omega arith, rw sub-zero)
 
-mul-p : tie.Need-mul-p Inv-loop μ-loop
-mul-p c = omega arith
-
-array-copy-out-p : tie.Need-array-copy-out-p Inv-loop μ-loop
-array-copy-out-p c = omega arith
-
-share-requires : tie.Need-share-requires Inv-loop μ-loop
-share-requires c κs = search needs
-
 returns : tie.Need-returns Inv-loop μ-loop
 returns c = search (needs, any-found)
-
-add-j : tie.Need-add-j Inv-loop μ-loop
-add-j c = omega arith
-
-loop-less : tie.Need-loop-less Inv-loop μ-loop
-loop-less c = omega arith
 
 loop-again : tie.Need-loop-again Inv-loop μ-loop
 loop-again c = (omega arith, omega arith, search (needs, any-more))
@@ -53,13 +35,13 @@ any-shares-spec =
     (tie.spec
     Inv-loop
     μ-loop
-    smaller-requires
+    (λ c κs. search needs)
     loop-holds
-    mul-p
-    array-copy-out-p
-    share-requires
+    (λ c. omega arith)
+    (λ c. omega arith)
+    (λ c κs. search needs)
     returns
-    add-j
-    loop-less
+    (λ c. omega arith)
+    (λ c. omega arith)
     loop-again
     returns-2)

@@ -19,15 +19,6 @@ abbrev μ-loop : tie.MeasureT-loop
 loop-holds : tie.Need-loop-holds Inv-loop μ-loop
 loop-holds c = (omega arith, refl)
 
-strike-slot-requires : tie.Need-strike-slot-requires Inv-loop μ-loop
-strike-slot-requires c κs = search needs
-
-add-i : tie.Need-add-i Inv-loop μ-loop
-add-i c = omega arith
-
-loop-less : tie.Need-loop-less Inv-loop μ-loop
-loop-less c = omega arith
-
 loop-again : tie.Need-loop-again Inv-loop μ-loop
 loop-again c = (omega arith, search (needs, more-struck))
 
@@ -37,4 +28,12 @@ returns c = search (needs, all-struck)
 pub strike-all-spec : {M : Type 1} → statement M
 strike-all-spec =
     tie.close
-    (tie.spec Inv-loop μ-loop loop-holds strike-slot-requires add-i loop-less loop-again returns)
+    (tie.spec
+    Inv-loop
+    μ-loop
+    loop-holds
+    (λ c κs. search needs)
+    (λ c. omega arith)
+    (λ c. omega arith)
+    loop-again
+    returns)

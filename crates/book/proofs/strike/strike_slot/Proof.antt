@@ -5,18 +5,6 @@ use Rattle.book.proofs.NoticeLaws.{strike-hit, strike-miss}
 use Rattle.book.proofs.strike.strike_slot.Statement.{statement}
 use Rattle.book.proofs.strike.strike_slot.Tie as tie
 
-touches-requires : tie.Need-touches-requires
-touches-requires c κs = search needs
-
-add-book : tie.Need-add-book
-add-book c = search needs
-
-mul-book : tie.Need-mul-book
-mul-book c = search needs
-
-element-write-book : tie.Need-element-write-book
-element-write-book c = search needs
-
 returns : tie.Need-returns
 returns c = search (needs, strike-hit)
 
@@ -25,4 +13,11 @@ returns-2 c = search (needs, strike-miss)
 
 pub strike-slot-spec : {M : Type 1} → statement M
 strike-slot-spec =
-    tie.close (tie.spec touches-requires add-book mul-book element-write-book returns returns-2)
+    tie.close
+    (tie.spec
+    (λ c κs. search needs)
+    (λ c. search needs)
+    (λ c. search needs)
+    (λ c. search needs)
+    returns
+    returns-2)

@@ -5,12 +5,6 @@ use Rattle.llobatelh.proofs.CallsLaws.{said-refused, said-done}
 use Rattle.llobatelh.proofs.book_calls.number_of.Statement.{statement}
 use Rattle.llobatelh.proofs.book_calls.number_of.Tie as tie
 
-enum-known-said : tie.Need-enum-known-said
-enum-known-said c = search needs
-
-enum-told : tie.Need-enum-told
-enum-told c = search needs
-
 returns : tie.Need-returns
 returns c = search (needs, said-refused)
 
@@ -18,4 +12,4 @@ returns-2 : tie.Need-returns-2
 returns-2 c = search (needs, said-done)
 
 pub number-of-spec : {M : Type 1} → statement M
-number-of-spec = tie.close (tie.spec enum-known-said enum-told returns returns-2)
+number-of-spec = tie.close (tie.spec (λ c. search needs) (λ c. search needs) returns returns-2)

@@ -5,11 +5,8 @@ use Rattle.llobatelh.proofs.HandedLaws.{request-handed}
 use Rattle.llobatelh.proofs.handed.request.Statement.{statement}
 use Rattle.llobatelh.proofs.handed.request.Tie as tie
 
-substream-requires : tie.Need-substream-requires
-substream-requires c κs = search needs
-
 returns : tie.Need-returns
 returns c = search (needs, request-handed)
 
 pub request-spec : {M : Type 1} → statement M
-request-spec = tie.close (tie.spec substream-requires returns)
+request-spec = tie.close (tie.spec (λ c κs. search needs) returns)

@@ -5,14 +5,8 @@ use Rattle.registers.proofs.SizesLaws.{size-of-oas}
 use Rattle.registers.proofs.Registers.oas_size.Statement.{statement}
 use Rattle.registers.proofs.Registers.oas_size.Tie as tie
 
-oas-requires : tie.Need-oas-requires
-oas-requires c κs = search needs
-
-size-of-requires : tie.Need-size-of-requires
-size-of-requires c κs = search needs
-
 returns : tie.Need-returns
 returns c = search (needs, size-of-oas)
 
 pub oas-size-spec : {M : Type 1} → statement M
-oas-size-spec = tie.close (tie.spec oas-requires size-of-requires returns)
+oas-size-spec = tie.close (tie.spec (λ c κs. search needs) (λ c κs. search needs) returns)

@@ -5,20 +5,11 @@ use Rattle.registers.proofs.SizesLaws.{refused-oas, refused-sid, refuse
 use Rattle.registers.proofs.Registers.refused.Statement.{statement}
 use Rattle.registers.proofs.Registers.refused.Tie as tie
 
-oas-requires : tie.Need-oas-requires
-oas-requires c κs = search needs
-
 returns : tie.Need-returns
 returns c = search (needs, refused-oas)
 
-sid-size-requires : tie.Need-sid-size-requires
-sid-size-requires c κs = search needs
-
 returns-2 : tie.Need-returns-2
 returns-2 c = search (needs, refused-sid)
-
-ssid-size-requires : tie.Need-ssid-size-requires
-ssid-size-requires c κs = search needs
 
 returns-3 : tie.Need-returns-3
 returns-3 c = search (needs, refused-ssid)
@@ -26,4 +17,10 @@ returns-3 c = search (needs, refused-ssid)
 pub refused-spec : {M : Type 1} → statement M
 refused-spec =
     tie.close
-    (tie.spec oas-requires returns sid-size-requires returns-2 ssid-size-requires returns-3)
+    (tie.spec
+    (λ c κs. search needs)
+    returns
+    (λ c κs. search needs)
+    returns-2
+    (λ c κs. search needs)
+    returns-3)

@@ -17,26 +17,8 @@ Inv-loop line n sum₀ column₀ sum column = (column ≤ n) × (n ≤ columns) 
 abbrev μ-loop : tie.MeasureT-loop
 μ-loop line n sum₀ column₀ sum column = n - column
 
-columns-requires : tie.Need-columns-requires Inv-loop μ-loop
-columns-requires c κs = search needs
-
 loop-holds : tie.Need-loop-holds Inv-loop μ-loop
 loop-holds c = (omega arith, search (needs, columns-few), search (needs, line-counted), omega arith)
-
-cell-of-requires : tie.Need-cell-of-requires Inv-loop μ-loop
-cell-of-requires c κs = search needs
-
-add-sum : tie.Need-add-sum Inv-loop μ-loop
-add-sum c = omega arith
-
-add-sum-2 : tie.Need-add-sum-2 Inv-loop μ-loop
-add-sum-2 c = omega arith
-
-add-column : tie.Need-add-column Inv-loop μ-loop
-add-column c = omega arith
-
-loop-less : tie.Need-loop-less Inv-loop μ-loop
-loop-less c = omega arith
 
 loop-again : tie.Need-loop-again Inv-loop μ-loop
 loop-again c = (omega arith, omega arith, search (needs, cells-summed), search (needs, few-more))
@@ -50,12 +32,12 @@ line-length-spec =
     (tie.spec
     Inv-loop
     μ-loop
-    columns-requires
+    (λ c κs. search needs)
     loop-holds
-    cell-of-requires
-    add-sum
-    add-sum-2
-    add-column
-    loop-less
+    (λ c κs. search needs)
+    (λ c. omega arith)
+    (λ c. omega arith)
+    (λ c. omega arith)
+    (λ c. omega arith)
     loop-again
     returns)

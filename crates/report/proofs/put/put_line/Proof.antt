@@ -15,32 +15,14 @@ Inv-loop out₀ at line n to₀ column₀ out to column = (column ≤ n) × Left
 abbrev μ-loop : tie.MeasureT-loop
 μ-loop out₀ at line n to₀ column₀ out to column = n - column
 
-columns-requires : tie.Need-columns-requires Inv-loop μ-loop
-columns-requires c κs = search needs
-
 loop-holds : tie.Need-loop-holds Inv-loop μ-loop
 loop-holds c = (omega arith, search (needs, line-starts))
-
-cell-of-requires : tie.Need-cell-of-requires Inv-loop μ-loop
-cell-of-requires c κs = search needs
-
-ending-requires : tie.Need-ending-requires Inv-loop μ-loop
-ending-requires c κs = search needs
 
 put-cell-requires : tie.Need-put-cell-requires Inv-loop μ-loop
 put-cell-requires c κs = search (needs, cell-room)
 
-add-column : tie.Need-add-column Inv-loop μ-loop
-add-column c = omega arith
-
-loop-less : tie.Need-loop-less Inv-loop μ-loop
-loop-less c = omega arith
-
 loop-again : tie.Need-loop-again Inv-loop μ-loop
 loop-again c = (omega arith, search (needs, cell-more))
-
-same-length : tie.Need-same-length Inv-loop μ-loop
-same-length c = search needs
 
 returns : tie.Need-returns Inv-loop μ-loop
 returns c = search (needs, line-put)
@@ -51,13 +33,13 @@ put-line-spec =
     (tie.spec
     Inv-loop
     μ-loop
-    columns-requires
+    (λ c κs. search needs)
     loop-holds
-    cell-of-requires
-    ending-requires
+    (λ c κs. search needs)
+    (λ c κs. search needs)
     put-cell-requires
-    add-column
-    loop-less
+    (λ c. omega arith)
+    (λ c. omega arith)
     loop-again
-    same-length
+    (λ c. search needs)
     returns)

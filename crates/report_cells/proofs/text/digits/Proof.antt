@@ -1,7 +1,6 @@
 -- Proof of `report_cells::text::digits`: the digits that are left before those that were written are all of them.
 -- Assumes: nothing.
 use borrow.Author.Needs.{needs}
-use native.Mathlib.Omega.{arith}
 use Rattle.report_cells.proofs.TextLaws.{Counting, digits-start, digits-more, digits-whole}
 use Rattle.report_cells.proofs.text.digits.Statement.{statement}
 use Rattle.report_cells.proofs.text.digits.Tie as tie
