@@ -1,5 +1,7 @@
 -- The list in an answer's words, as loops read and copy it.
 --     Taken, taken-none, taken-more, taken-all     the pieces into an array: none so far, one more, all
+--     zeros-none                                   zeros hold no list
+--     list-length                                  a list's array has room for the most
 --     Copied, copied-none, copied-more, copied-put     the list's words into others: none so far, one more, all and the outcome before them
 -- Assumes: nothing.
 use Prim.Native.Nat.{ℕ, zero, suc, _+_, _-_, _*_, _≤_, _<_}
@@ -19,7 +21,7 @@ use Rattle.placed.proofs.LeftLaws.{left-all, left-placed}
 use Rattle.placed.proofs.FilledLaws.{value-put, values-put}
 use Rattle.memory_image.specs.declared.Piece.{Piece}
 use Rattle.answers.specs.Layout.{piecesMost, answerWords, listWords, countAt, piecesAt}
-use Rattle.answers.specs.Pieces.{nothing, onlyList}
+use Rattle.answers.specs.Pieces.{nothing, none, onlyList}
 use Rattle.answers.specs.declared.Outcome.{Outcome}
 use Rattle.answers.proofs.PiecesLaws.{pieceNumbers, words-numbers}
 use Rattle.answer_words.specs.AnswerWords.{piecesIn, listOf, outcomeOf, outcomePut, wordsOf}
@@ -112,6 +114,10 @@ module _ (ws : List ℕ) where
   in-length zero i = refl
   in-length (suc m) i = ap suc (in-length m (i + 2))
 
+  pub list-length : length (listOf ws .piece) ≡ piecesMost
+  unfolding listOf
+  list-length = in-length piecesMost piecesAt
+
   module _ {now : List ℕ} {j : ℕ} (so-far : Copied now j) where
     pub copied-more : j < listWords → {x : ℕ} → x ≡ listWord j → Copied (set now (countAt + j) x) (j + 1)
     copied-more more is = record { few = omega arith; left = value-put listWord listWords j [] (so-far .left) more is (omega arith) }
@@ -126,3 +132,8 @@ module _ (ws : List ℕ) where
         listWords ≤ j → {outcome : Outcome} → outcome ≡ outcomeOf ws → {after : List ℕ} → after ≡ outcomePut now outcome
         → after ≡ wordsOf (outcomeOf ws) (listOf ws)
     copied-put past is put = put ∙ rw (is, copied-all past) (put-words (listOf ws) (outcomeOf ws))
+
+-- zeros hold no list
+pub zeros-none : listOf (replicate answerWords 0) ≡ none
+unfolding listOf none
+zeros-none = refl

@@ -88,11 +88,6 @@ askBook ws base size request new =
     else if ltb (slotOf ws request) (slotsOf ws) then ws
     else nowHolding (ltb (emptySlot ws) (slotsOf ws)) ws (emptySlot ws) (keyOf request) (new .answer) (new .list)
 
--- what `keep` does with a new lookup, in a book with so many slots
-pub record Keeps (ws : List ℕ) (key slots : ℕ) (new : Looked) (asked : Asked) (after : List ℕ) : Type 0 where
-  pub result : asked ≡ newly (ltb (firstFrom ws 0 slots 0) slots) (new .answer) (new .list)
-  pub book : after ≡ nowHolding (ltb (firstFrom ws 0 slots 0) slots) ws (firstFrom ws 0 slots 0) key (new .answer) (new .list)
-
 -- the lookup that an ask stands for: the book's registers, and the memory handed in
 abbrev pub newLookup : List ℕ → ℕ → List ℕ → Request → Looked
 newLookup ws base memory request = lookedUp (registersOf ws) base memory request

@@ -1,18 +1,18 @@
 // The book of kept answers: open, ask, notice. Start at `ask`.
-// Meets specs/Book.antt, over the words of book_words. A refused call leaves every word.
+// Meets specs/Book.antt, over the words of book_words. A refused call leaves every word. An ask on plain numbers is in
+// into.rt.
 ghost use mathlib.Core.Path.{_≡_};
-ghost use Prim.Native.Nat.{_≤_};
-ghost use Rattle.book_words.specs.Layout.{slotsMost};
-ghost use Rattle.book.specs.Book.{Asks, Keeps, Noticed, Opened, newLookup, refusedWith};
+ghost use Rattle.book.specs.Book.{Asks, Noticed, Opened};
+ghost use Rattle.book.specs.Into.{askedOf};
+use answers::ANSWER_WORDS;
 use answers::Outcome;
 use answers::Pieces;
 use book_words::BOOK_WORDS;
 use book_words::SLOTS_MOST;
 use ids::Request;
-use lookup::Answer;
-use lookup::Looked;
 use registers::Registers;
 
+pub mod into;
 mod strike;
 
 // What a call without an answer of its own says.
@@ -61,86 +61,54 @@ pub fn open(
     Said::Done
 }
 
-fn refuse(number: u64) -> Asked
-    ensures { λ r. ⌜ r ≡ refusedWith number ⌝ }
-{
-    let list = Pieces::none();
-    Asked {
-        reply: Reply::Refused(number),
-        list,
-    }
-}
-
 // Asks the book: refusals 7, 6 and 3. A kept answer comes from its slot; any other from a new lookup,
 // which is kept in the lowest empty slot where there is one.
 pub fn ask(book: &mut [u64; BOOK_WORDS], base: u64, memory: &[u8], request: Request) -> Asked
     ensures { λ r. ⌜ Asks (now (book .entry)) base (now (memory .entry)) request r (now (book .exit)) ⌝ }
 {
-    if book_words::well::is_malformed(&*book) {
-        return refuse(7);
-    }
-    if book_words::is_other(&*book, base, memory.len() as u64) {
-        return refuse(6);
-    }
-    if request.refused() {
-        return refuse(3);
-    }
-    let slots = book[0] as usize;
-    let key = request.pack() + 1;
-    let slot = book_words::find(&*book, key, slots);
-    if slot < slots {
-        let block = book_words::block(&*book, slot);
-        let outcome = answer_words::outcome_of(block);
-        let list = answer_words::list_of(block);
+    let mut words = [0u64; ANSWER_WORDS];
+    let stream = request.stream;
+    let given = request.given();
+    let substream = request.number();
+    let number = into::ask_into(
+        &mut words,
+        book,
+        base,
+        memory,
+        stream.number,
+        given,
+        substream,
+    );
+    let outcome = answer_words::outcome_of(&words);
+    let list = answer_words::list_of(&words);
+    asked_of(number, outcome, list)
+}
+
+// What a number and an answer stand for.
+fn asked_of(number: u64, outcome: Outcome, list: Pieces) -> Asked
+    ensures { λ r. ⌜ r ≡ askedOf number outcome list ⌝ }
+{
+    if number == into::KEPT_BEFORE {
         return Asked {
             reply: Reply::KeptBefore(outcome),
             list,
         };
     }
-    look_anew(book, base, memory, request, key, slots)
-}
-
-// A new lookup, by the book's registers, and its keeping.
-fn look_anew(
-    book: &mut [u64; BOOK_WORDS],
-    base: u64,
-    memory: &[u8],
-    request: Request,
-    key: u64,
-    slots: usize,
-) -> Asked
-    requires { ⌜ slots ≤ slotsMost ⌝ }
-    ensures { λ r. ⌜ Keeps (now (book .entry)) key slots (newLookup (now (book .entry)) base (now (memory .entry)) request) r (now (book .exit)) ⌝ }
-{
-    let registers = book_words::registers_of(&*book);
-    let looked = lookup::lookup(registers, base, memory, request);
-    keep(book, key, slots, looked)
-}
-
-// Keeps a new answer in the lowest empty slot, where there is one.
-fn keep(book: &mut [u64; BOOK_WORDS], key: u64, slots: usize, looked: Looked) -> Asked
-    requires { ⌜ slots ≤ slotsMost ⌝ }
-    ensures { λ r. ⌜ Keeps (now (book .entry)) key slots looked r (now (book .exit)) ⌝ }
-{
-    let answer = looked.answer;
-    let list = looked.list;
-    match answer {
-        Answer::Refused(number) => refuse(number),
-        Answer::Is(outcome) => {
-            let empty = book_words::find(&*book, 0, slots);
-            if empty < slots {
-                let block = answer_words::encode(outcome, list);
-                book_words::put(book, empty, key, block);
-                return Asked {
-                    reply: Reply::NewlyKept(outcome),
-                    list,
-                };
-            }
-            Asked {
-                reply: Reply::NotKept(outcome),
-                list,
-            }
-        }
+    if number == into::NEWLY_KEPT {
+        return Asked {
+            reply: Reply::NewlyKept(outcome),
+            list,
+        };
+    }
+    if number == into::NOT_KEPT {
+        return Asked {
+            reply: Reply::NotKept(outcome),
+            list,
+        };
+    }
+    Asked {
+        reply: Reply::Refused(number),
+        list,
     }
 }
 

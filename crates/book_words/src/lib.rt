@@ -119,10 +119,10 @@ fn copy(book: &mut [u64; BOOK_WORDS], b: usize, block: &[u64; ANSWER_WORDS])
 }
 
 // Fills a slot with a key and a block.
-pub fn put(book: &mut [u64; BOOK_WORDS], i: usize, key: u64, block: [u64; ANSWER_WORDS])
+pub fn keep_at(book: &mut [u64; BOOK_WORDS], i: usize, key: u64, block: &[u64; ANSWER_WORDS])
     requires { ⌜ i < slotsMost ⌝ }
-    ensures { λ _. ⌜ now (book .exit) ≡ keptAt (now (book .entry)) i key block ⌝ }
+    ensures { λ _. ⌜ now (book .exit) ≡ keptAt (now (book .entry)) i key (now (block .entry)) ⌝ }
 {
     book[KEYS + i] = key;
-    copy(&mut *book, BLOCKS + ANSWER_WORDS * i, &block);
+    copy(&mut *book, BLOCKS + ANSWER_WORDS * i, block);
 }

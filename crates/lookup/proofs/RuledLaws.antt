@@ -5,6 +5,7 @@
 --     limit-is                   2^(OAS size), as the code computes it
 --     answer-ruled               the walk, with its outcome put before its list, is what the rules give
 --     refused-first .. answered-last    the refusals in their order, and the answer
+--     shaped                     an answer has a whole array, and a refusal a number from 1 to 3 and no list
 --     looked-handed              by the registers and the request that were made of numbers
 --     looked-is, looked-refused  an answer, or a refusal, read back from the words
 -- Assumes: nothing.
@@ -198,21 +199,21 @@ pub looked-handed :
     → LooksUp (lookedUp r base memory request) before says after → LooksUp (lookedUp r′ base memory request′) before says after
 looked-handed base memory before is-r is-request looked = rw (is-r, is-request) at looked
 
--- an answer has a whole array, and a refusal a number that isn't 0 and no list
-Shaped : Answer → Pieces → Type 0
-Shaped (Refused n) l = (n ≡ 0 → ⊥) × (l ≡ none)
+-- an answer has a whole array, and a refusal a number from 1 to 3 and no list
+abbrev pub Shaped : Answer → Pieces → Type 0
+Shaped (Refused n) l = (1 ≤ n) × ((n ≤ 3) × (l ≡ none))
 Shaped (Is outcome) l = length (l .piece) ≡ piecesMost
 
 module _ (r : Registers) (base : ℕ) (memory : List ℕ) (request : Request) where
   abbrev Whole : Looked → Type 0
   Whole looked = Shaped (looked .answer) (looked .list)
 
-  shaped : Whole (lookedUp r base memory request)
-  unfolding Shaped lookedUp
+  pub shaped : Shaped (lookedUp r base memory request .answer) (lookedUp r base memory request .list)
+  unfolding lookedUp
   shaped =
-      either Whole (refusal1 r) (λ no. omega arith, refl)
-      (either Whole (refusal2 (extentOf base memory)) (λ no. omega arith, refl)
-      (either Whole (refusal3 request) (λ no. omega arith, refl) (pieces-length (ruled r base memory request .list))))
+      either Whole (refusal1 r) (omega arith, (omega arith, refl))
+      (either Whole (refusal2 (extentOf base memory)) (omega arith, (omega arith, refl))
+      (either Whole (refusal3 request) (omega arith, (omega arith, refl)) (pieces-length (ruled r base memory request .list))))
 
   module _ {narrow : List ℕ} (is-narrow : narrow ≡ wordsOfRegisters r) {given substream : ℕ} (is-given : given ≡ givenOf (request .substream))
       (is-substream : substream ≡ numberOf (request .substream)) {number : ℕ} {after : List ℕ}
@@ -231,22 +232,22 @@ module _ (r : Registers) (base : ℕ) (memory : List ℕ) (request : Request) wh
     pub looked-is :
         number ≡ 0 → {outcome : Outcome} → outcome ≡ outcomeOf after
         → record { answer = Is outcome; list = list } ≡ lookedUp r base memory request
-    unfolding Into Shaped answerSays answerPut
+    unfolding Into answerSays answerPut
     looked-is zero-is {outcome} told =
         go (lookedUp r base memory request .answer) (lookedUp r base memory request .list) refl shaped into
       where
         go :
             (a : Answer) (l : Pieces) → record { answer = a; list = l } ≡ lookedUp r base memory request → Shaped a l
             → Into (record { answer = a; list = l }) → record { answer = Is outcome; list = list } ≡ lookedUp r base memory request
-        go (Refused n) l same shape put = absurd (shape .0 (sym (put .result) ∙ zero-is))
+        go (Refused n) l same shape put = absurd (omega (arith, shape .0, put .result))
         go (Is o) l same shape put = rw (told, read, put .words, outcome-back o l, list-back o l shape) same
 
     pub looked-refused : (number ≡ 0 → ⊥) → record { answer = Refused number; list = list } ≡ lookedUp r base memory request
-    unfolding Into Shaped answerSays answerPut listOf none
+    unfolding Into answerSays answerPut listOf none
     looked-refused some = go (lookedUp r base memory request .answer) (lookedUp r base memory request .list) refl shaped into
       where
         go :
             (a : Answer) (l : Pieces) → record { answer = a; list = l } ≡ lookedUp r base memory request → Shaped a l
             → Into (record { answer = a; list = l }) → record { answer = Refused number; list = list } ≡ lookedUp r base memory request
-        go (Refused n) l same shape put = rw (read, put .words, put .result, ← shape .1) same
+        go (Refused n) l same shape put = rw (read, put .words, put .result, ← shape .1 .1) same
         go (Is o) l same shape put = absurd (some (put .result))
