@@ -1,5 +1,6 @@
 -- The list as a count and an array, and in an answer's words: for any most of pieces.
 --     push-room, push-full        one piece more in an answer's words, where there is room and where there is none
+--     pieces-none                 no piece
 --     pieces-length               the array has room for the most
 --     each-pieces, pieces-each    what holds of each piece, of a list and of its count and array
 --     pieceNumbers, words-numbers the words of an array's pieces
@@ -16,7 +17,7 @@ use lib.Seq.{getD-append-add}
 use Rattle.memory_image.specs.Rule.{Each}
 use Rattle.memory_image.specs.declared.Piece.{Piece}
 use Rattle.answers.specs.Layout.{piecesMost, countAt, piecesAt, answerWords}
-use Rattle.answers.specs.Pieces.{nothing, padded, piecesOf, EachPiece, pieceWords, onlyList, pushPiece}
+use Rattle.answers.specs.Pieces.{nothing, none, padded, piecesOf, EachPiece, pieceWords, onlyList, pushPiece}
 
 module _ (ws : List ℕ) {n : ℕ} (is : n ≡ getD ws countAt 0) (address size : ℕ) where
   pub push-room :
@@ -39,6 +40,10 @@ padded-length (suc m) (p ∷ l) = ap suc (padded-length m l)
 pub pieces-length : (l : List Piece) → length (piecesOf l .piece) ≡ piecesMost
 unfolding piecesOf
 pieces-length l = padded-length piecesMost l
+
+pub pieces-none : none ≡ piecesOf []
+unfolding none piecesOf
+pieces-none = refl
 
 padded-more : (m : ℕ) (l : List Piece) (p : Piece) → length l < m → set (padded m l) (length l) p ≡ padded m (l ++ (p ∷ []))
 padded-more zero l p room = absurd (omega arith)

@@ -1,8 +1,10 @@
 // The two kinds of id, and a request. Start at `Request`.
-// Meets specs/Ids.antt, and for the word that a request is packed into specs/Packing.antt.
+// Meets specs/Ids.antt, and for the word that a request is packed into specs/Packing.antt; a request as numbers is in numbers.rt.
 ghost use mathlib.Core.Path.{_≡_};
 ghost use Rattle.ids.specs.Ids.{madeStream, madeSubstream, refusal3};
 ghost use Rattle.ids.specs.Packing.{packed, unpacked};
+
+mod numbers;
 
 // Which device: any number of 32 bits.
 pub struct StreamId {

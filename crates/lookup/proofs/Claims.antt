@@ -11,6 +11,7 @@ use lib.Dec.{eqb, leb}
 use lib.ListN.{length}
 use lib.Pow.{pow-mono}
 use Rattle.bit_fields.specs.Choice.{if_then_else_}
+use Rattle.bit_fields.proofs.ChoiceLaws.{either}
 use Rattle.ids.specs.Ids.{refusal3}
 use Rattle.ids.specs.declared.Request.{Request}
 use Rattle.ids.specs.declared.Substream.{Substream}
@@ -18,18 +19,19 @@ use Rattle.registers.specs.Fields.{smmuEn}
 use Rattle.registers.specs.Sizes.{refusal1, oasSize, sizeOf}
 use Rattle.registers.specs.declared.Registers.{Registers}
 use Rattle.registers.proofs.SizesLaws.{oas-at-most}
-use Rattle.memory_image.specs.Extent.{Extent, extentOf, refusal2, fetched}
+use Rattle.memory_image.specs.Extent.{Extent, extentOf, refusal2, addressTop, fetched}
 use Rattle.memory_image.specs.Rule.{run, andThen, Agree, Lies}
 use Rattle.memory_image.specs.Words.{bytes, word}
 use Rattle.memory_image.specs.declared.Piece.{Piece}
 use Rattle.memory_image.proofs.RunLaws.{depends, run-lies, run-few, run-every, run-gives, run-done, run-then}
+use Rattle.answers.specs.Layout.{piecesMost}
 use Rattle.answers.specs.Pieces.{none, piecesOf, EachPiece}
 use Rattle.answers.specs.Proper.{ProperAnswer}
 use Rattle.answers.specs.declared.Outcome.{Outcome}
 use Rattle.answers.specs.declared.Pieces.{Pieces}
-use Rattle.answers.proofs.PiecesLaws.{each-pieces, pieces-each, pieces-none}
-use Rattle.answers.proofs.ProperLaws.{Below, proper-pieces, pieces-length}
-use Rattle.stream_table.specs.StreamTable.{streamRule, linear, linearAt}
+use Rattle.answers.proofs.PiecesLaws.{each-pieces, pieces-each, pieces-none, pieces-length}
+use Rattle.answers.proofs.ProperLaws.{Below, proper-pieces}
+use Rattle.stream_table.specs.StreamTable.{streamRule, isLinear, linearAt}
 use Rattle.stream_entry.specs.StreamEntry.{steRule, notThere}
 use Rattle.stream_table.proofs.StreamLaws.{stream-unread}
 use Rattle.lookup.specs.Claims.{DependsOnList, ListedLies, DescriptorLong, ListedFew, RefusedExactly, OneAnswer, OnePart, NothingRead, AnswersProper, NoneIsNotZero}
@@ -37,7 +39,7 @@ use Rattle.lookup.specs.Lookup.{fromSte, fromEntry, lookupRule, ruled, r
 use Rattle.lookup.specs.Part.{SteHanded}
 use Rattle.lookup.specs.declared.Looked.{Looked}
 use Rattle.lookup.specs.declared.Answer.the-variants.{Refused, Is}
-use Rattle.lookup.proofs.RuledLaws.{lookup-few, lookup-every, ProperOutcome, lookup-gives}
+use Rattle.lookup.proofs.RuledLaws.{lookup-few, lookup-every, ProperOutcome, lookup-gives, ruled-few}
 
 -- the refusals
 pub refused-exactly : (r : Registers) (base : ℕ) (memory : List ℕ) (request : Request) → RefusedExactly r base memory request
@@ -54,40 +56,29 @@ refused-exactly r base memory request =
 module _ (P : Looked → Type 0) (r : Registers) (base : ℕ) (memory : List ℕ) (request : Request) where
   by-cases : ((n : ℕ) → P (refusedWith n)) → P (answered (ruled r base memory request)) → P (lookedUp r base memory request)
   unfolding lookedUp
-  by-cases refused known = go (refusal1 r) (refusal2 (extentOf base memory)) (refusal3 request)
-    where
-      go :
-          (a b c : Bool)
-          → P (if a then refusedWith 1 else if b then refusedWith 2 else if c then refusedWith 3 else answered (ruled r base memory request))
-      go true b c = refused 1
-      go false true c = refused 2
-      go false false true = refused 3
-      go false false false = known
+  by-cases refused known =
+      either P (refusal1 r) (refused 1)
+      (either P (refusal2 (extentOf base memory)) (refused 2) (either P (refusal3 request) (refused 3) known))
 
 nothing-each : (P : Piece → Type 0) → EachPiece P none
 unfolding none
 nothing-each P i few = absurd (omega arith)
-
-module _ (r : Registers) (base : ℕ) (memory : List ℕ) (request : Request) where
-  room : length (ruled r base memory request .list) ≤ 4
-  unfolding ruled
-  room = run-few (extentOf base memory) (2 ^ oasSize r) (bytes memory) 4 (lookupRule r request) (lookup-few r request)
 
 pub listed-lies : ListedLies
 unfolding ruled
 listed-lies r base memory request =
     by-cases (λ l. EachPiece (Lies (extentOf base memory) (2 ^ oasSize r)) (l .list)) r base memory request
     (λ n. nothing-each (Lies (extentOf base memory) (2 ^ oasSize r)))
-    (each-pieces _ (ruled r base memory request .list) (room r base memory request)
+    (each-pieces _ (ruled r base memory request .list) (ruled-few r base memory request)
     (run-lies (extentOf base memory) (2 ^ oasSize r) (bytes memory) (lookupRule r request)))
 
 pub listed-few : ListedFew
 unfolding ruled piecesOf none
 listed-few r base memory request =
-    by-cases (λ l. (l .list .count ≤ 4) × EachPiece DescriptorLong (l .list)) r base memory request
+    by-cases (λ l. (l .list .count ≤ piecesMost) × EachPiece DescriptorLong (l .list)) r base memory request
     (λ n. (omega arith, nothing-each DescriptorLong)) (
-      room r base memory request,
-      each-pieces _ (ruled r base memory request .list) (room r base memory request)
+      ruled-few r base memory request,
+      each-pieces _ (ruled r base memory request .list) (ruled-few r base memory request)
           (run-every (extentOf base memory) (2 ^ oasSize r) (bytes memory) (λ n. (n ≡ 8) ⊎ (n ≡ 64)) (lookupRule r request)
           (lookup-every (λ n. (n ≡ 8) ⊎ (n ≡ 64)) (inl refl) (inr refl) r request)),
     )
@@ -109,7 +100,8 @@ module _ (r : Registers) (e : Extent) (request : Request) where
   over-depends false true c f g agree = refl
   over-depends false false true f g agree = refl
   over-depends false false false f g agree =
-      let few = run-few e (2 ^ oasSize r) f 4 (lookupRule r request) (lookup-few r request) in
+      let fetched = run-few e (2 ^ oasSize r) f 4 (lookupRule r request) (lookup-few r request) in
+      let few : length (run e (2 ^ oasSize r) f (lookupRule r request) .list) ≤ piecesMost = omega arith in
       rw (depends e (2 ^ oasSize r) f g (lookupRule r request) (pieces-each _ (run e (2 ^ oasSize r) f (lookupRule r request) .list) few agree))
 
 pub depends-on-list : DependsOnList
@@ -150,13 +142,13 @@ module _ (r : Registers) (base : ℕ) (memory : List ℕ) (request : Request) wh
       l : List Piece
       l = ruled r base memory request .list
 
-      few : length l ≤ 4
-      few = room r base memory request
+      few : length l ≤ piecesMost
+      few = ruled-few r base memory request
 
       ends : EachPiece Below (piecesOf l)
       ends i counted =
           let lies = each-pieces (Lies e (2 ^ oasSize r)) l few (run-lies e (2 ^ oasSize r) (bytes memory) (lookupRule r request)) i counted in
-          let top : 2 ^ oasSize r ≤ 2 ^ 52 = pow-mono (oas-at-most r) in
+          let top : 2 ^ oasSize r ≤ addressTop = pow-mono (oas-at-most r) in
           omega (arith, lies .below)
 
 pub answers-proper : AnswersProper
@@ -178,5 +170,5 @@ answers-proper r base memory request outcome l is =
         rw (same-outcome, same-list) at (ruled-proper r base memory request)
 
 pub none-is-not-zero : NoneIsNotZero
-unfolding lookedUp refusal1 refusal2 refusal3 ruled lookupRule fromSte fromEntry streamRule steRule notThere run andThen fetched word oasSize sizeOf linear linearAt
+unfolding lookedUp refusal1 refusal2 refusal3 ruled lookupRule fromSte fromEntry streamRule steRule notThere run andThen fetched word oasSize sizeOf isLinear linearAt
 none-is-not-zero = (refl, refl)

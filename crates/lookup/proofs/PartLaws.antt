@@ -1,107 +1,172 @@
 -- Where the STE lies, and the part that is handed back, on plain values.
---     place-none, place-fetch     the walk ends before the STE; the STE is fetched or not
---     at-first, at-second, at-third, at-last    the refusals in their order, and the answer
+--     from-end, from-here, from-on    the loop over a list's pieces: none has 64 bytes; one has; go on
+--     listed-at                   the first listed piece of 64 bytes is the STE
 --     ste-inside, ste-end-fits    what is found lies in the memory
 --     part-none, part-whole       the part handed back: an empty one; the 64 bytes from a place on
 -- Assumes: nothing.
-use Prim.Native.Nat.{ℕ, _+_, _-_, _%_, _^_, _≤_, _<_}
-use native.Mathlib.Nat.{add-sub-cancel-left}
+use Prim.Native.Nat.{ℕ, zero, suc, _+_, _-_, _*_, _^_, _≤_, _<_}
+use native.Mathlib.Nat.{add-sub-cancel-left, add-zero}
 use native.Mathlib.Omega.{arith}
 use mathlib.Core.Path.{_≡_, refl, sym, ap, _∙_}
 use mathlib.Core.Bool.{Bool, true, false}
-use mathlib.Core.List.{List, []}
-use lib.ListN.{length, take, drop}
+use mathlib.Core.List.{List, [], _∷_, _++_, append-assoc}
+use borrow.Author.Tests.{eq-eqb, ne-eqb}
+use lib.Dec.{eqb}
+use lib.ListN.{length, getD, take, drop, length-append}
+use lib.Seq.{getD-append-add}
 use denote.Ref.{RefT, ptr, now}
+use Rattle.number_laws.proofs.Scans.{left-none, left-one}
 use Rattle.bit_fields.specs.Choice.{if_then_else_}
 use Rattle.ids.specs.Ids.{refusal3}
 use Rattle.ids.specs.declared.Request.{Request}
+use Rattle.ids.specs.declared.Substream.{Substream}
 use Rattle.registers.specs.Sizes.{refusal1, oasSize}
 use Rattle.registers.specs.declared.Registers.{Registers}
-use Rattle.memory_image.specs.Extent.{extentOf, fetched, fetchRule, refusal2}
+use Rattle.memory_image.specs.Extent.{Extent, extentOf, fetched, refusal2}
 use Rattle.memory_image.specs.Words.{bytes}
-use Rattle.memory_image.specs.Rule.{done, fetch, Ran, run}
+use Rattle.memory_image.specs.Rule.{Rule, done, fetch, Ran, run, andThen, Each}
+use Rattle.memory_image.specs.declared.Piece.{Piece}
 use Rattle.memory_image.specs.declared.Fetched.{Fetched}
 use Rattle.memory_image.specs.declared.Fetched.the-variants.{At, Outside}
 use Rattle.memory_image.proofs.ExtentLaws.{fetched-lies}
-use Rattle.memory_image.proofs.RunLaws.{run-done, run-had, run-fault, run-then, run-few}
-use Rattle.answers.specs.Pieces.{none}
+use Rattle.memory_image.proofs.RunLaws.{run-done, run-had, run-fault, run-then, run-every}
+use Rattle.answers.specs.Layout.{piecesMost}
+use Rattle.answers.specs.Outcome.{fSteFetch}
+use Rattle.answers.specs.Pieces.{none, nothing, padded, piecesOf}
 use Rattle.answers.specs.declared.Outcome.{Outcome}
-use Rattle.answers.specs.declared.Pieces.{Pieces}
-use Rattle.answers.proofs.PiecesLaws.{run-on-run, pieces-none}
-use Rattle.stream_table.specs.StreamTable.{streamRule, walkedOn}
+use Rattle.answers.specs.declared.Outcome.the-variants.{Abort}
+use Rattle.stream_table.specs.StreamTable.{streamRule}
 use Rattle.stream_table.specs.declared.Found.{Found}
 use Rattle.stream_table.specs.declared.Found.the-variants.{Ste, Ended}
-use Rattle.stream_table.specs.declared.Walked.{Walked}
-use Rattle.stream_table.proofs.StreamLaws.{stream-few}
-use Rattle.lookup.specs.Part.{placeOf, steAtRule, steAt, SteHanded}
-use Rattle.lookup.proofs.RuledLaws.{limit-is}
+use Rattle.stream_table.proofs.StreamLaws.{stream-every}
+use Rattle.stream_entry.specs.StreamEntry.{steRule}
+use Rattle.lookup.specs.Lookup.{fromEntry, fromSte, lookupRule, ruled, lookedUp, refusedWith, answered}
+use Rattle.lookup.specs.Part.{placeOf, steAtRule, steAt, steFrom, SteHanded}
+use Rattle.lookup.specs.declared.Looked.{Looked}
+use Rattle.lookup.proofs.RuledLaws.{ruled-few}
 
-module _ (r : Registers) (base : ℕ) (memory : List ℕ) (stream : ℕ) {size limit : ℕ} (is-size : size ≡ oasSize r)
-    (is-limit : limit ≡ 2 ^ size % 2 ^ 64) {empty : Pieces} (is-none : empty ≡ none) {step : Walked}
-    (said : step ≡ walkedOn base memory limit (streamRule r stream) empty) where
-  -- the walk that hands a list on finds what the rule gives
-  found-is : step .found ≡ run (extentOf base memory) (2 ^ oasSize r) (bytes memory) (streamRule r stream) .answer
-  unfolding walkedOn
-  found-is =
-      let few = run-few (extentOf base memory) (2 ^ oasSize r) (bytes memory) 1 (streamRule r stream) (stream-few r stream) in
-      rw (
-        said,
-        limit-is r is-size is-limit,
-        is-none,
-        pieces-none,
-        run-on-run (extentOf base memory) (2 ^ oasSize r) (bytes memory) (streamRule r stream) [] (omega arith),
-      )
+-- the loop over the pieces: i passed
+module _ (base : ℕ) (pieces : List Piece) (n : ℕ) {i : ℕ} (left : steFrom base pieces n 0 ≡ steFrom base pieces (n - i) i) where
+  pub from-end : n ≤ i → Outside ≡ steFrom base pieces n 0
+  unfolding steFrom
+  from-end past = sym (left ∙ rw (left-none n i past))
 
-  on-place :
-      run (extentOf base memory) (2 ^ oasSize r) (bytes memory) (steAtRule r base stream) .answer
-      ≡ run (extentOf base memory) limit (bytes memory) (placeOf base (step .found)) .answer
-  unfolding steAtRule
-  on-place = rw (run-then, ← found-is, limit-is r is-size is-limit)
+  module _ (more : i < n) where
+    pub from-here :
+        getD pieces i nothing .length ≡ 64 → {place : ℕ} → place ≡ getD pieces i nothing .address - base → At place ≡ steFrom base pieces n 0
+    unfolding steFrom
+    from-here long at = sym (left ∙ rw (left-one n i more, eq-eqb (getD pieces i nothing .length) 64 long, at))
 
-  pub place-none :
-      {outcome : Outcome} → step .found ≡ Ended outcome
-      → Outside ≡ run (extentOf base memory) (2 ^ oasSize r) (bytes memory) (steAtRule r base stream) .answer
-  unfolding placeOf
-  place-none is = rw (on-place, is, run-done)
+    pub from-on : (getD pieces i nothing .length ≡ 64 → ⊥) → steFrom base pieces n 0 ≡ steFrom base pieces (n - (i + 1)) (i + 1)
+    unfolding steFrom
+    from-on short = left ∙ rw (left-one n i more, ne-eqb (getD pieces i nothing .length) 64 short)
 
-  pub place-fetch :
-      {ste : ℕ} → step .found ≡ Ste ste → {at : Fetched} → at ≡ fetchRule (extentOf base memory) limit ste 64
-      → at ≡ run (extentOf base memory) (2 ^ oasSize r) (bytes memory) (steAtRule r base stream) .answer
-  unfolding placeOf fetchRule
-  place-fetch {ste} is is-at = rw (is-at, on-place, is) (go (fetched (extentOf base memory) limit ste 64) refl)
+-- the first piece of 64 bytes in a list
+abbrev firstLong : ℕ → List Piece → Fetched
+firstLong base [] = Outside
+firstLong base (p ∷ l) =
+    if eqb (p .length) 64 then At (p .address - base)
+    else firstLong base l
+
+module _ (base : ℕ) where
+  -- the same with zeros after the list
+  one :
+      (front : List Piece) (p : Piece) (rest : List Piece) (m : ℕ)
+      → steFrom base (front ++ (p ∷ rest)) (suc m) (length front)
+      ≡ (if eqb (p .length) 64 then At (p .address - base) else steFrom base ((front ++ (p ∷ [])) ++ rest) m (length (front ++ (p ∷ []))))
+  unfolding steFrom
+  one front p rest m =
+      let here : getD (front ++ (p ∷ rest)) (length front) nothing ≡ p = rw add-zero at (getD-append-add front (p ∷ rest) 0 nothing) in
+      let longer : front ++ (p ∷ rest) ≡ (front ++ (p ∷ [])) ++ rest = sym (append-assoc front (p ∷ []) rest) in
+      let on : length front + 1 ≡ length (front ++ (p ∷ [])) = sym (length-append front (p ∷ [])) in
+      rw (here, longer, on)
+
+  behind : (front : List Piece) (m : ℕ) (l : List Piece) → length l ≤ m → steFrom base (front ++ padded m l) m (length front) ≡ firstLong base l
+  unfolding steFrom
+  behind front zero [] room = refl
+  behind front zero (p ∷ l) room = absurd (omega arith)
+  behind front (suc m) [] room = one front nothing (padded m []) m ∙ behind (front ++ (nothing ∷ [])) m [] (omega arith)
+  behind front (suc m) (p ∷ l) room =
+      one front p (padded m l) m
+      ∙ ap (λ (at : Fetched). if eqb (p .length) 64 then At (p .address - base) else at) (behind (front ++ (p ∷ [])) m l (omega arith))
+
+  -- an L1STD is passed
+  passed : (l more : List Piece) → Each (λ p. p .length ≡ 8) l → firstLong base (l ++ more) ≡ firstLong base more
+  passed [] more each = refl
+  passed (p ∷ l) more each =
+      let other = ne-eqb (p .length) 64 (λ long. omega (arith, each .0)) in rw other (passed l more (each .1))
+
+module _ (r : Registers) (base : ℕ) (memory : List ℕ) where
+  -- from where the STE is, the first one fetched is the STE
+  found-first :
+      (limit : ℕ) (substream : Substream) (found : Found)
+      → firstLong base (run (extentOf base memory) limit (bytes memory) (fromSte r substream found) .list)
+      ≡ run (extentOf base memory) limit (bytes memory) (placeOf base found) .answer
+  unfolding fromSte placeOf
+  found-first limit substream (Ended outcome) = rw (run-done, run-done)
+  found-first limit substream (Ste ste) = go (fetched (extentOf base memory) limit ste 64) refl
     where
+      rest : (ℕ → ℕ) → Rule Outcome
+      rest w = fromEntry r ste w (steRule r substream ste w)
+
       go :
           (b : Bool) → fetched (extentOf base memory) limit ste 64 ≡ b
-          → fetchRule (extentOf base memory) limit ste 64
+          → firstLong base (run (extentOf base memory) limit (bytes memory) (fetch ste 8 (done (Abort fSteFetch)) rest) .list)
           ≡ run (extentOf base memory) limit (bytes memory) (fetch ste 8 (done Outside) (λ w. done (At (ste - base)))) .answer
       go true test =
-          rw (run-had (extentOf base memory) limit (bytes memory) ste 8 (done Outside) (λ w. done (At (ste - base))) test, run-done, test)
+          rw (
+            run-had (extentOf base memory) limit (bytes memory) ste 8 (done (Abort fSteFetch)) rest test,
+            run-had (extentOf base memory) limit (bytes memory) ste 8 (done Outside) (λ w. done (At (ste - base))) test,
+            run-done,
+          )
       go false test =
-          rw
-          (run-fault (extentOf base memory) limit (bytes memory) ste 8 (done Outside) (λ w. done (At (ste - base))) test, run-done, test)
+          rw (
+            run-fault (extentOf base memory) limit (bytes memory) ste 8 (done (Abort fSteFetch)) rest test,
+            run-fault (extentOf base memory) limit (bytes memory) ste 8 (done Outside) (λ w. done (At (ste - base))) test,
+            run-done,
+            run-done,
+          )
 
--- the refusals in their order
-module _ (r : Registers) (base : ℕ) (memory : List ℕ) (request : Request) {first : Bool} (is-first : first ≡ refusal1 r) where
-  pub at-first : first ≡ true → Outside ≡ steAt r base memory request
-  unfolding steAt
-  at-first so = simp (← is-first, so)
+  module _ (request : Request) where
+    abbrev walked : Fetched
+    walked = run (extentOf base memory) (2 ^ oasSize r) (bytes memory) (steAtRule r base (request .stream .number)) .answer
 
-  module _ (passed : first ≡ false) {second : Bool} (is-second : second ≡ refusal2 (extentOf base memory)) where
-    pub at-second : second ≡ true → Outside ≡ steAt r base memory request
-    unfolding steAt
-    at-second so = simp (← is-first, passed, ← is-second, so)
+    ruled-first : firstLong base (ruled r base memory request .list) ≡ walked
+    unfolding ruled lookupRule steAtRule
+    ruled-first =
+        let on = run-then (extentOf base memory) (2 ^ oasSize r) (bytes memory) (fromSte r (request .substream)) (streamRule r (request .stream .number)) in
+        let at = run-then (extentOf base memory) (2 ^ oasSize r) (bytes memory) (placeOf base) (streamRule r (request .stream .number)) in
+        let eight = run-every (extentOf base memory) (2 ^ oasSize r) (bytes memory) (λ n. n ≡ 8) (streamRule r (request .stream .number))
+        (stream-every r (request .stream .number) (λ n. n ≡ 8) refl) in
+        ap (λ (ran : Ran Outcome). firstLong base (ran .list)) on
+        ∙ passed base (run (extentOf base memory) (2 ^ oasSize r) (bytes memory) (streamRule r (request .stream .number)) .list) _ eight
+        ∙ found-first (2 ^ oasSize r) (request .substream) _
+        ∙ sym (ap (λ (ran : Ran Fetched). ran .answer) at)
 
-    module _ (passed′ : second ≡ false) {third : Bool} (is-third : third ≡ refusal3 request) where
-      pub at-third : third ≡ true → Outside ≡ steAt r base memory request
-      unfolding steAt
-      at-third so = simp (← is-first, passed, ← is-second, passed′, ← is-third, so)
+    none-first : (n : ℕ) → steFrom base (refusedWith n .list .piece) piecesMost 0 ≡ Outside
+    unfolding none steFrom
+    none-first n = refl
 
-      pub at-last :
-          third ≡ false → {at : Fetched}
-          → at ≡ run (extentOf base memory) (2 ^ oasSize r) (bytes memory) (steAtRule r base (request .stream .number)) .answer
-          → at ≡ steAt r base memory request
-      unfolding steAt
-      at-last so is = rw is (simp (← is-first, passed, ← is-second, passed′, ← is-third, so))
+    pub listed-at :
+        {looked : Looked} → looked ≡ lookedUp r base memory request → {at : Fetched} → at ≡ steFrom base (looked .list .piece) piecesMost 0
+        → at ≡ steAt r base memory request
+    unfolding lookedUp steAt piecesOf
+    listed-at is found =
+        found ∙ rw is (go (refusal1 r) (refusal2 (extentOf base memory)) (refusal3 request))
+      where
+        last : steFrom base (padded piecesMost (ruled r base memory request .list)) piecesMost 0 ≡ walked
+        last = behind base [] piecesMost (ruled r base memory request .list) (ruled-few r base memory request) ∙ ruled-first
+
+        go :
+            (a b c : Bool)
+            → steFrom base
+            ((if a then refusedWith 1 else if b then refusedWith 2 else if c then refusedWith 3 else answered (ruled r base memory request))
+            .list .piece) piecesMost 0
+            ≡ (if a then Outside else if b then Outside else if c then Outside else walked)
+        go true b c = none-first 1
+        go false true c = none-first 2
+        go false false true = none-first 3
+        go false false false = last
 
 -- what is found lies in the memory
 nowhere : {A : Type 0} {place : ℕ} → Outside ≡ At place → A

@@ -27,6 +27,7 @@ use Rattle.memory_image.specs.Rule.{Agree, Lies}
 use Rattle.memory_image.specs.Words.{bytes}
 use Rattle.memory_image.specs.declared.Piece.{Piece}
 use Rattle.memory_image.specs.declared.Fetched.{Fetched}
+use Rattle.answers.specs.Layout.{piecesMost}
 use Rattle.answers.specs.Pieces.{none, EachPiece}
 use Rattle.answers.specs.Proper.{ProperAnswer}
 use Rattle.answers.specs.declared.Outcome.{Outcome}
@@ -56,7 +57,7 @@ DescriptorLong p = (p .length ≡ 8) ⊎ (p .length ≡ 64)
 abbrev pub ListedFew : Type 0
 ListedFew =
     (r : Registers) (base : ℕ) (memory : List ℕ) (request : Request)
-    → (lookedUp r base memory request .list .count ≤ 4)
+    → (lookedUp r base memory request .list .count ≤ piecesMost)
     × EachPiece DescriptorLong (lookedUp r base memory request .list)
 
 -- the four cases leave none out, and no two of them meet

@@ -1,6 +1,7 @@
 -- The whole lookup (01, "When the bench says no", "From StreamID to STE" to "What an answer holds").
 --     lookedUp        what a call answers, with its list, for every input, the refusals in their order: start here
 --     lookupRule      the rules of the four stages as one
+--     LooksUp         the same into an answer's words
 --     fromSte, fromEntry, fromCd    how it goes on from where the STE is, from what it says, from where the CD is
 -- Assumes: nothing.
 use Prim.Native.Nat.{ℕ, _^_}
@@ -16,7 +17,7 @@ use Rattle.memory_image.specs.Extent.{extentOf, refusal2}
 use Rattle.memory_image.specs.Words.{bytes}
 use Rattle.memory_image.specs.Rule.{Rule, done, fetch, Ran, run, andThen}
 use Rattle.answers.specs.Outcome.{fSteFetch, fCdFetch}
-use Rattle.answers.specs.Pieces.{none, piecesOf, runOn, onlyList}
+use Rattle.answers.specs.Pieces.{none, piecesOf}
 use Rattle.answers.specs.declared.Outcome.{Outcome}
 use Rattle.answers.specs.declared.Outcome.the-variants.{Abort}
 use Rattle.answers.specs.declared.Pieces.{Pieces}
@@ -43,7 +44,7 @@ fromCd r ste (context.Cd cd) = fetch cd 8 (done (Abort fCdFetch)) (λ w. done (c
 -- from what the STE says, with its words
 unfoldable pub fromEntry : Registers → ℕ → (ℕ → ℕ) → Entry → Rule Outcome
 fromEntry r ste w (entry.Ended outcome) = done outcome
-fromEntry r ste w (entry.Stage1 index) = andThen (contextRule w index) (fromCd r ste)
+fromEntry r ste w (entry.Stage1 index) = andThen (contextRule r w index) (fromCd r ste)
 
 -- the STE is 64 bytes; a fetch that fails is F_STE_FETCH
 unfoldable pub fromSte : Registers → Substream → Found → Rule Outcome
@@ -57,14 +58,6 @@ lookupRule r request = andThen (streamRule r (request .stream .number)) (fromSte
 -- what the rules give on a lent memory
 unfoldable pub ruled : Registers → ℕ → List ℕ → Request → Ran Outcome
 ruled r base memory request = run (extentOf base memory) (2 ^ oasSize r) (bytes memory) (lookupRule r request)
-
--- what a rule gives from a list on, as the walk hands it from stage to stage
-unfoldable pub lookedOn : ℕ → List ℕ → ℕ → Rule Outcome → Pieces → Looked
-lookedOn base memory limit rule l =
-    record {
-      answer = Is (runOn (extentOf base memory) limit (bytes memory) rule l .answer);
-      list = runOn (extentOf base memory) limit (bytes memory) rule l .list;
-    }
 
 -- a refusal carries its number and nothing else
 abbrev pub refusedWith : ℕ → Looked
@@ -80,20 +73,15 @@ lookedUp r base memory request =
     else if refusal3 request then refusedWith 3
     else answered (ruled r base memory request)
 
--- an outcome, and words with its list and zeros
-pub record AnswersIn (ran : Ran Outcome) (r : Outcome) (after : List ℕ) : Type 0 where
-  pub result : r ≡ ran .answer
-  pub words : after ≡ onlyList (piecesOf (ran .list))
+-- a lookup into an answer's words: 0 and all of them; or a refusal's number, and the words as they were
+unfoldable pub answerSays : Answer → ℕ
+answerSays (Refused n) = n
+answerSays (Is outcome) = 0
 
--- a lookup into words: 0 and the answer's words, or a refusal's number and the words as they were
-unfoldable pub numberSays : Answer → ℕ
-numberSays (Refused n) = n
-numberSays (Is outcome) = 0
+unfoldable pub answerPut : Answer → Pieces → List ℕ → List ℕ
+answerPut (Refused n) list before = before
+answerPut (Is outcome) list before = wordsOf outcome list
 
-unfoldable pub wordsPut : Answer → Pieces → List ℕ → List ℕ
-wordsPut (Refused n) l before = before
-wordsPut (Is outcome) l before = wordsOf outcome l
-
-pub record LooksInto (looked : Looked) (before : List ℕ) (says : ℕ) (after : List ℕ) : Type 0 where
-  pub result : says ≡ numberSays (looked .answer)
-  pub words : after ≡ wordsPut (looked .answer) (looked .list) before
+pub record LooksUp (looked : Looked) (before : List ℕ) (says : ℕ) (after : List ℕ) : Type 0 where
+  pub result : says ≡ answerSays (looked .answer)
+  pub words : after ≡ answerPut (looked .answer) (looked .list) before

@@ -2,11 +2,13 @@
 --     SteHanded     what a call hands back, by where the STE lies: start here
 --     steAt         where it lies in the memory, if it is fetched and nothing is refused
 --     steAtRule     the rule: the same walk, and the same fetch, as the lookup's
+--     steFrom       the first descriptor of 64 bytes among those of a list: how the code finds it
 -- Assumes: nothing.
-use Prim.Native.Nat.{ℕ, _+_, _-_, _^_}
+use Prim.Native.Nat.{ℕ, zero, suc, _+_, _-_, _^_}
 use mathlib.Core.Path.{_≡_}
 use mathlib.Core.List.{List, []}
-use lib.ListN.{take, drop}
+use lib.Dec.{eqb}
+use lib.ListN.{getD, take, drop}
 use denote.Ref.{RefT, ptr, now}
 use Rattle.bit_fields.specs.Choice.{if_then_else_}
 use Rattle.ids.specs.Ids.{refusal3}
@@ -16,8 +18,10 @@ use Rattle.registers.specs.declared.Registers.{Registers}
 use Rattle.memory_image.specs.Extent.{extentOf, refusal2}
 use Rattle.memory_image.specs.Words.{bytes}
 use Rattle.memory_image.specs.Rule.{Rule, done, fetch, run, andThen}
+use Rattle.memory_image.specs.declared.Piece.{Piece}
 use Rattle.memory_image.specs.declared.Fetched.{Fetched}
 use Rattle.memory_image.specs.declared.Fetched.the-variants.{At, Outside}
+use Rattle.answers.specs.Pieces.{nothing}
 use Rattle.stream_table.specs.StreamTable.{streamRule}
 use Rattle.stream_table.specs.declared.Found.{Found}
 use Rattle.stream_table.specs.declared.Found.the-variants.{Ste, Ended}
@@ -36,6 +40,13 @@ steAt r base memory request =
     else if refusal2 (extentOf base memory) then Outside
     else if refusal3 request then Outside
     else run (extentOf base memory) (2 ^ oasSize r) (bytes memory) (steAtRule r base (request .stream .number)) .answer
+
+-- the first piece of 64 bytes, among the next m from i on: its place in the memory
+unfoldable pub steFrom : ℕ → List Piece → ℕ → ℕ → Fetched
+steFrom base pieces zero i = Outside
+steFrom base pieces (suc m) i =
+    if eqb (getD pieces i nothing .length) 64 then At (getD pieces i nothing .address - base)
+    else steFrom base pieces m (i + 1)
 
 -- the 64 bytes from a place on, or none
 abbrev pub steBytes : List ℕ → Fetched → List ℕ

@@ -1,16 +1,20 @@
 // The whole lookup, and the STE that a request reaches. Start at `lookup`.
 // Meets specs/Lookup.antt and specs/Part.antt. What it reads it reads through `memory_image::fetch`.
 ghost use mathlib.Core.Path.{_≡_};
-ghost use Rattle.lookup.specs.Lookup.{LooksInto, lookedUp};
+ghost use Rattle.ids.specs.Numbers.{requestFrom};
+ghost use Rattle.registers.specs.Words.{registersFrom};
+ghost use Rattle.lookup.specs.Lookup.{LooksUp, lookedUp};
 ghost use Rattle.lookup.specs.Part.{SteHanded, steAt};
+use answers::ANSWER_WORDS;
 use answers::Outcome;
 use answers::Pieces;
 use ids::Request;
 use memory_image::Fetched;
+use registers::REGISTER_WORDS;
 use registers::Registers;
 
 pub mod part;
-mod walk_in;
+mod walk;
 
 // A refusal's number, or the answer.
 pub enum Answer {
@@ -29,11 +33,24 @@ pub struct Looked {
 pub fn lookup(registers: Registers, base: u64, memory: &[u8], request: Request) -> Looked
     ensures { λ r. ⌜ r ≡ lookedUp registers base (now (memory .entry)) request ⌝ }
 {
-    let mut words = [0u64; 18];
-    let number = look_into(registers, base, memory, request, &mut words);
-    let list = answer_words::list_of(words);
+    let mut words = [0u64; ANSWER_WORDS];
+    let narrow = registers.words();
+    let stream = request.stream;
+    let given = request.given();
+    let substream = request.number();
+    let number = look_into(
+        &mut words,
+        &narrow,
+        registers.strtab_base,
+        base,
+        memory,
+        stream.number,
+        given,
+        substream,
+    );
+    let list = answer_words::list_of(&words);
     if number == 0 {
-        let outcome = answer_words::outcome_of(words);
+        let outcome = answer_words::outcome_of(&words);
         return Looked {
             answer: Answer::Is(outcome),
             list,
@@ -45,15 +62,34 @@ pub fn lookup(registers: Registers, base: u64, memory: &[u8], request: Request) 
     }
 }
 
-// The same into an answer's words: 0, or a refusal's number; a refused lookup leaves every word.
+// The same on plain numbers, into an answer's words: 0 and all of them; or a refusal's number, and the words as they
+// were. This is the quick form: nothing goes by value but numbers.
 pub fn look_into(
+    words: &mut [u64; ANSWER_WORDS],
+    narrow: &[u32; REGISTER_WORDS],
+    strtab_base: u64,
+    base: u64,
+    memory: &[u8],
+    stream: u32,
+    given: u8,
+    substream: u64,
+) -> u64
+    ensures { λ r. ⌜ LooksUp (lookedUp (registersFrom (now (narrow .entry)) «strtab_base») base (now (memory .entry)) (requestFrom stream given substream)) (now (words .entry)) r (now (words .exit)) ⌝ }
+{
+    let registers = Registers::from_words(narrow, strtab_base);
+    let request = Request::from_numbers(stream, given, substream);
+    look(words, registers, base, memory, request)
+}
+
+// The refusals in their order, and the answer.
+fn look(
+    words: &mut [u64; ANSWER_WORDS],
     registers: Registers,
     base: u64,
     memory: &[u8],
     request: Request,
-    words: &mut [u64; 18],
 ) -> u64
-    ensures { λ r. ⌜ LooksInto (lookedUp registers base (now (memory .entry)) request) (now (words .entry)) r (now (words .exit)) ⌝ }
+    ensures { λ r. ⌜ LooksUp (lookedUp registers base (now (memory .entry)) request) (now (words .entry)) r (now (words .exit)) ⌝ }
 {
     if registers.refused() {
         return 1;
@@ -64,8 +100,8 @@ pub fn look_into(
     if request.refused() {
         return 3;
     }
-    let outcome = walk_in::from_stream(registers, base, memory, request, &mut *words);
-    answer_words::put_outcome(words, outcome, 0)
+    walk::answer(words, registers, base, memory, request);
+    0
 }
 
 // The 64 bytes of the STE that a request reaches, as that very part of the memory; empty where none is

@@ -7,36 +7,12 @@ use Rattle.lookup.proofs.PartLaws.{ste-inside, ste-end-fits, part-none,
 use Rattle.lookup.proofs.ste_part.Statement.{statement}
 use Rattle.lookup.proofs.ste_part.Tie as tie
 
-ste-at-requires : tie.Need-ste-at-requires
-ste-at-requires c κs = search needs
-
-enum-known-at : tie.Need-enum-known-at
-enum-known-at c = search needs
-
-enum-told : tie.Need-enum-told
-enum-told c = search needs
-
-sub-result : tie.Need-sub-result
-sub-result c = search needs
-
-part-result-start : tie.Need-part-result-start
-part-result-start c = search needs
-
-part-result-end : tie.Need-part-result-end
-part-result-end c = search needs
-
 returns : tie.Need-returns
 returns c =
     let asked = c .before .before .before .ste-at in part-none _ _ (asked .ensures) (search needs) refl refl (omega arith)
 
 add-end : tie.Need-add-end
 add-end c = search (needs, ste-end-fits)
-
-sub-result-2 : tie.Need-sub-result-2
-sub-result-2 c = search needs
-
-part-result-start-2 : tie.Need-part-result-start-2
-part-result-start-2 c = search needs
 
 part-result-end-2 : tie.Need-part-result-end-2
 part-result-end-2 c = search (needs, ste-inside)
@@ -50,15 +26,15 @@ pub ste-part-spec : {M : Type 1} → statement M
 ste-part-spec =
     tie.close
     (tie.spec
-    ste-at-requires
-    enum-known-at
-    enum-told
-    sub-result
-    part-result-start
-    part-result-end
+    (λ c κs. search needs)
+    (λ c. search needs)
+    (λ c. search needs)
+    (λ c. search needs)
+    (λ c. search needs)
+    (λ c. search needs)
     returns
     add-end
-    sub-result-2
-    part-result-start-2
+    (λ c. search needs)
+    (λ c. search needs)
     part-result-end-2
     returns-2)

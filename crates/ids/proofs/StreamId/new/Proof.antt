@@ -14,8 +14,5 @@ returns-2 : tie.Need-returns-2
 unfolding madeStream
 returns-2 c = search (needs, if-not-lt)
 
-cast-number : tie.Need-cast-number
-cast-number c = search needs
-
 pub new-spec : {M : Type 1} → statement M
-new-spec = tie.close (tie.spec cast-number returns returns-2)
+new-spec = tie.close (tie.spec (λ c. search needs) returns returns-2)
