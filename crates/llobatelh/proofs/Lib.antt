@@ -1,4 +1,3 @@
 -- Laws of specs/.
-pub mod HandedLaws
 pub mod CallsLaws
 pub mod Claims

@@ -17,7 +17,7 @@ use Rattle.ids.specs.declared.Request.{Request}
 use Rattle.registers.specs.declared.Registers.{Registers}
 use Rattle.memory_image.specs.Extent.{Extent}
 use Rattle.memory_image.specs.declared.Fetched.{Fetched}
-use Rattle.lookup.specs.Lookup.{lookedUp}
+use Rattle.lookup.specs.Lookup.{lookedUp, LooksUp}
 use Rattle.lookup.specs.Part.{SteHanded, steAt}
 use Rattle.lookup.specs.declared.Answer.the-variants as answer
 use Rattle.lookup.specs.declared.Looked.{Looked}
@@ -25,16 +25,8 @@ use Rattle.book.specs.declared.Reply.the-variants as reply
 use Rattle.report.specs.Length.{reportMost}
 use Rattle.report.specs.Report.{reportSays}
 use Rattle.report.specs.declared.Written.the-variants as written
-use Rattle.llobatelh.specs.Calls.{
-  noPart,
-  partSays,
-  asked,
-  LooksUp,
-  OpensBook,
-  AsksBook,
-  NoticesBook,
-  ReportsBook,
-}
+use Rattle.book.specs.Into.{asked, AsksBook}
+use Rattle.llobatelh.specs.Calls.{noPart, partSays, OpensBook, NoticesBook, ReportsBook}
 
 abbrev pub PartLies : Type 0
 PartLies =

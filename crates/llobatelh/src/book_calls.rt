@@ -2,22 +2,15 @@
 // Meets specs/Calls.antt; include/llobatelh.h says what each word of a book is.
 ghost use mathlib.Core.Path.{_≡_};
 ghost use Rattle.registers.specs.Words.{registersFrom};
-ghost use Rattle.llobatelh.specs.Calls.{AsksBook, NoticesBook, OpensBook, ReportsBook, saidSays};
-ghost use Rattle.llobatelh.specs.Handed.{requestFrom};
-use super::handed;
-use super::put;
-use book::Reply;
+ghost use Rattle.ids.specs.Numbers.{requestFrom};
+ghost use Rattle.book.specs.Into.{AsksBook};
+ghost use Rattle.llobatelh.specs.Calls.{NoticesBook, OpensBook, ReportsBook, saidSays};
+use answers::ANSWER_WORDS;
 use book::Said;
 use book_words::BOOK_WORDS;
 use registers::REGISTER_WORDS;
+use registers::Registers;
 use report::Written;
-
-// What an ask says of the answer that it gives.
-const KEPT_BEFORE: u64 = 100;
-
-const NEWLY_KEPT: u64 = 101;
-
-const NOT_KEPT: u64 = 102;
 
 // Opens a book: 0 and every word of it; or refusal 1, 2 or 4.
 #[no_mangle]
@@ -31,7 +24,7 @@ pub extern "C" fn llobatelh_open(
 ) -> u64
     ensures { λ r. ⌜ OpensBook (registersFrom (now (registers .entry)) «strtab_base») (record { base = base; length = length }) slots (now (book .entry)) r (now (book .exit)) ⌝ }
 {
-    let regs = handed::registers(registers, strtab_base);
+    let regs = Registers::from_words(registers, strtab_base);
     let said = book::open(book, regs, base, length, slots);
     number_of(said)
 }
@@ -56,20 +49,11 @@ pub extern "C" fn llobatelh_ask(
     stream: u32,
     given: u8,
     substream: u64,
-    answer: &mut [u64; 18],
+    answer: &mut [u64; ANSWER_WORDS],
 ) -> u64
     ensures { λ r. ⌜ AsksBook (now (book .entry)) base (now (memory .entry)) (requestFrom stream given substream) (now (answer .entry)) r (now (book .exit)) (now (answer .exit)) ⌝ }
 {
-    let request = handed::request(stream, given, substream);
-    let asked = book::ask(book, base, memory, request);
-    let reply = asked.reply;
-    let list = asked.list;
-    match reply {
-        Reply::Refused(number) => number,
-        Reply::KeptBefore(outcome) => put(answer, outcome, list, KEPT_BEFORE),
-        Reply::NewlyKept(outcome) => put(answer, outcome, list, NEWLY_KEPT),
-        Reply::NotKept(outcome) => put(answer, outcome, list, NOT_KEPT),
-    }
+    book::into::ask_into(answer, book, base, memory, stream, given, substream)
 }
 
 // Tells a book that bytes were edited: 0; or refusal 7 or 5.
