@@ -4,7 +4,7 @@ ghost use mathlib.Core.Path.{_≡_};
 ghost use Rattle.registers.specs.Sizes.{oasSize, refusal1, sizeOf};
 
 mod fields;
-mod words;
+mod by_words;
 
 // How many of the registers have 32 bits: all but STRTAB_BASE.
 pub const REGISTER_WORDS: usize = 7;
