@@ -8,10 +8,10 @@
 --     put-words                          an outcome put before a list: the words of both
 --     put-translate .. put-unserved      what is put, by the outcome's cases
 -- Assumes: nothing.
-use Prim.Native.Nat.{ℕ, zero, suc, _+_, _-_, _*_, _^_, _≤_, _<_}
+use Prim.Native.Nat.{ℕ, _+_, _-_, _≤_, _<_}
 use native.Mathlib.Nat.{add-zero}
 use native.Mathlib.Omega.{arith}
-use mathlib.Core.Path.{_≡_, refl, sym, ap, _∙_}
+use mathlib.Core.Path.{_≡_, refl, sym, ap}
 use mathlib.Core.Bool.{Bool, true, false, not}
 use mathlib.Core.List.{List, [], _∷_, _++_, append-assoc}
 use borrow.Author.Tests.{eq-eqb, ne-eqb, le-leb, lt-leb, not-true, not-false}
@@ -22,7 +22,7 @@ use Rattle.number_laws.proofs.Tests.{both}
 use Rattle.placed.specs.From.{valuesFrom}
 use Rattle.memory_image.specs.Extent.{addressTop}
 use Rattle.memory_image.specs.declared.Piece.{Piece}
-use Rattle.answers.specs.Layout.{valuesMost, piecesMost, answerWords, kindAt, valuesAt, piecesAt}
+use Rattle.answers.specs.Layout.{valuesMost, piecesMost, answerWords, kindAt, valuesAt}
 use Rattle.answers.specs.Values.{kindOf, kindsMost, valuesOf}
 use Rattle.answers.specs.Pieces.{nothing, onlyList}
 use Rattle.answers.specs.Proper.{properOutcome, properPieces}

@@ -1,6 +1,5 @@
 // An ask on plain numbers, into an answer's words. Start at `ask_into`.
 // Meets specs/Into.antt. It stands on the lookup's promise alone.
-ghost use mathlib.Core.Path.{_≡_};
 ghost use Prim.Native.Nat.{_≤_};
 ghost use Rattle.ids.specs.Numbers.{requestFrom};
 ghost use Rattle.book_words.specs.Layout.{slotsMost};
@@ -47,7 +46,17 @@ pub fn ask_into(
         answer_words::give(&kept, words);
         return KEPT_BEFORE;
     }
-    look_anew(words, book, base, memory, stream, given, substream, key, slots)
+    look_anew(
+        words,
+        book,
+        base,
+        memory,
+        stream,
+        given,
+        substream,
+        key,
+        slots,
+    )
 }
 
 // A new lookup, by the book's registers, and its keeping.
@@ -84,12 +93,7 @@ fn look_anew(
 }
 
 // Keeps an answer's words in the lowest empty slot, where there is one.
-fn keep(
-    book: &mut [u64; BOOK_WORDS],
-    key: u64,
-    slots: usize,
-    answer: &[u64; ANSWER_WORDS],
-) -> u64
+fn keep(book: &mut [u64; BOOK_WORDS], key: u64, slots: usize, answer: &[u64; ANSWER_WORDS]) -> u64
     requires { ⌜ slots ≤ slotsMost ⌝ }
     ensures { λ r. ⌜ KeepsWords (now (book .entry)) key slots (now (answer .entry)) r (now (book .exit)) ⌝ }
 {

@@ -14,7 +14,6 @@ use Rattle.placed.specs.From.{tab}
 use Rattle.registers.specs.Words.{registerWords, wordsOfRegisters}
 use Rattle.registers.specs.declared.Registers.{Registers}
 use Rattle.memory_image.specs.Extent.{extentOf}
-use Rattle.memory_image.specs.declared.Piece.{Piece}
 use Rattle.answers.specs.Pieces.{EachPiece}
 use Rattle.answers.specs.declared.Pieces.{Pieces}
 use Rattle.book_words.specs.Layout.{slotsMost, openedWith}

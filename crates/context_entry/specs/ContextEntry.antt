@@ -7,7 +7,7 @@
 -- Assumes: nothing.
 use Prim.Native.Nat.{ℕ, _*_, _^_, min}
 use mathlib.Core.Bool.{Bool, _&&_}
-use lib.Dec.{eqb, leb, ltb}
+use lib.Dec.{eqb, leb}
 use Rattle.bit_fields.specs.Bits.{bits, bitsOf, inBits}
 use Rattle.bit_fields.specs.Choice.{if_then_else_}
 use Rattle.registers.specs.Fields.{ttf, gran4k, gran16k, gran64k}

@@ -6,22 +6,20 @@
 --     packed-only     two proper requests with equal words are equal
 --     pack-unpack     a word that stands for a request is that request's word, and the request is proper
 -- Assumes: nothing.
-use Prim.Native.Nat.{ℕ, _+_, _-_, _*_, _/_, _%_, _^_, _≤_, _<_}
+use Prim.Native.Nat.{ℕ, _+_, _-_, _*_, _^_, _≤_, _<_}
 use native.Mathlib.Omega.{arith}
 use mathlib.Core.Path.{_≡_, refl, sym, ap, _∙_}
 use mathlib.Core.Bool.{Bool, true, false}
 use borrow.Author.Tests.{lt-ltb, le-ltb, le-leb, lt-leb, eq-eqb, ne-eqb, leb-true, leb-false, ltb-true, ltb-false, eqb-true, eqb-false}
 use lib.Dec.{eqb, leb, ltb}
 use Rattle.bit_fields.specs.Bits.{low, high}
-use Rattle.bit_fields.specs.Choice.{if_then_else_}
 use Rattle.ids.specs.Ids.{refusal3}
 use Rattle.ids.proofs.IdsLaws.{refused-with}
-use Rattle.ids.specs.Packing.{packed, unpacked, byPart, requestOf, Proper, partBits, partOf}
+use Rattle.ids.specs.Packing.{packed, unpacked, byPart, requestOf, Proper, partOf}
 use Rattle.ids.specs.declared.SubstreamId.{SubstreamId}
 use Rattle.ids.specs.declared.Substream.{Substream}
 use Rattle.ids.specs.declared.Substream.the-variants.{Without, With}
 use Rattle.ids.specs.declared.Request.{Request}
-use Rattle.ids.specs.declared.Unpacked.{Unpacked}
 use Rattle.ids.specs.declared.Unpacked.the-variants.{Is, Nothing}
 
 module _ (request : Request) where

@@ -4,7 +4,7 @@
 --     refusal3                       a request that is refused with 3
 -- Assumes: nothing.
 use Prim.Native.Nat.{ℕ, _^_}
-use mathlib.Core.Bool.{Bool, true, false}
+use mathlib.Core.Bool.{Bool, false}
 use lib.Dec.{ltb, leb}
 use Rattle.bit_fields.specs.Choice.{if_then_else_}
 use Rattle.ids.specs.declared.MadeStream.{MadeStream}

@@ -32,7 +32,16 @@ pub extern "C" fn llobatelh_lookup(
 ) -> u64
     ensures { λ r. ⌜ LooksUp (lookedUp (registersFrom (now (registers .entry)) «strtab_base») base (now (memory .entry)) (requestFrom stream given substream)) (now (answer .entry)) r (now (answer .exit)) ⌝ }
 {
-    lookup::look_into(answer, registers, strtab_base, base, memory, stream, given, substream)
+    lookup::look_into(
+        answer,
+        registers,
+        strtab_base,
+        base,
+        memory,
+        stream,
+        given,
+        substream,
+    )
 }
 
 // Where in the memory the STE of a request starts, 64 bytes; or NO_PART where none is handed back.

@@ -1,21 +1,17 @@
 -- The claims of specs/Claims.antt, each under its own name.
 -- Assumes: nothing.
-use Prim.Native.Nat.{ℕ, _*_, _^_, _≤_}
+use Prim.Native.Nat.{ℕ, _^_, _≤_}
 use native.Mathlib.Omega.{arith}
 use mathlib.Core.Path.{_≡_, refl, sym, ap, _∙_}
 use mathlib.Core.Bool.{Bool, true, false}
-use mathlib.Core.List.{List, []}
+use mathlib.Core.List.{List}
 use mathlib.Core.Logic.{_⊎_, inl, inr}
-use borrow.Author.Tests.{eq-eqb, ne-eqb, le-leb, lt-leb}
-use lib.Dec.{eqb, leb}
 use lib.ListN.{length}
 use lib.Pow.{pow-mono}
 use Rattle.bit_fields.specs.Choice.{if_then_else_}
 use Rattle.bit_fields.proofs.ChoiceLaws.{either}
 use Rattle.ids.specs.Ids.{refusal3}
 use Rattle.ids.specs.declared.Request.{Request}
-use Rattle.ids.specs.declared.Substream.{Substream}
-use Rattle.registers.specs.Fields.{smmuEn}
 use Rattle.registers.specs.Sizes.{refusal1, oasSize, sizeOf}
 use Rattle.registers.specs.declared.Registers.{Registers}
 use Rattle.registers.proofs.SizesLaws.{oas-at-most}
@@ -27,8 +23,6 @@ use Rattle.memory_image.proofs.RunLaws.{depends, run-lies, run-few, run-every, 
 use Rattle.answers.specs.Layout.{piecesMost}
 use Rattle.answers.specs.Pieces.{none, piecesOf, EachPiece}
 use Rattle.answers.specs.Proper.{ProperAnswer}
-use Rattle.answers.specs.declared.Outcome.{Outcome}
-use Rattle.answers.specs.declared.Pieces.{Pieces}
 use Rattle.answers.proofs.PiecesLaws.{each-pieces, pieces-each, pieces-none, pieces-length}
 use Rattle.answers.proofs.ProperLaws.{Below, proper-pieces}
 use Rattle.stream_table.specs.StreamTable.{streamRule, isLinear, linearAt}
@@ -36,7 +30,6 @@ use Rattle.stream_entry.specs.StreamEntry.{steRule, notThere}
 use Rattle.stream_table.proofs.StreamLaws.{stream-unread}
 use Rattle.lookup.specs.Claims.{DependsOnList, ListedLies, DescriptorLong, ListedFew, RefusedExactly, OneAnswer, OnePart, NothingRead, AnswersProper, NoneIsNotZero}
 use Rattle.lookup.specs.Lookup.{fromSte, fromEntry, lookupRule, ruled, refusedWith, answered, lookedUp}
-use Rattle.lookup.specs.Part.{SteHanded}
 use Rattle.lookup.specs.declared.Looked.{Looked}
 use Rattle.lookup.specs.declared.Answer.the-variants.{Refused, Is}
 use Rattle.lookup.proofs.RuledLaws.{lookup-few, lookup-every, ProperOutcome, lookup-gives, ruled-few}

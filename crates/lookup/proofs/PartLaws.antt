@@ -4,7 +4,7 @@
 --     ste-inside, ste-end-fits    what is found lies in the memory
 --     part-none, part-whole       the part handed back: an empty one; the 64 bytes from a place on
 -- Assumes: nothing.
-use Prim.Native.Nat.{ℕ, zero, suc, _+_, _-_, _*_, _^_, _≤_, _<_}
+use Prim.Native.Nat.{ℕ, zero, suc, _+_, _-_, _^_, _≤_, _<_}
 use native.Mathlib.Nat.{add-sub-cancel-left, add-zero}
 use native.Mathlib.Omega.{arith}
 use mathlib.Core.Path.{_≡_, refl, sym, ap, _∙_}
@@ -22,9 +22,9 @@ use Rattle.ids.specs.declared.Request.{Request}
 use Rattle.ids.specs.declared.Substream.{Substream}
 use Rattle.registers.specs.Sizes.{refusal1, oasSize}
 use Rattle.registers.specs.declared.Registers.{Registers}
-use Rattle.memory_image.specs.Extent.{Extent, extentOf, fetched, refusal2}
+use Rattle.memory_image.specs.Extent.{extentOf, fetched, refusal2}
 use Rattle.memory_image.specs.Words.{bytes}
-use Rattle.memory_image.specs.Rule.{Rule, done, fetch, Ran, run, andThen, Each}
+use Rattle.memory_image.specs.Rule.{Rule, done, fetch, Ran, run, Each}
 use Rattle.memory_image.specs.declared.Piece.{Piece}
 use Rattle.memory_image.specs.declared.Fetched.{Fetched}
 use Rattle.memory_image.specs.declared.Fetched.the-variants.{At, Outside}

@@ -9,11 +9,11 @@
 --     looked-handed              by the registers and the request that were made of numbers
 --     looked-is, looked-refused  an answer, or a refusal, read back from the words
 -- Assumes: nothing.
-use Prim.Native.Nat.{ℕ, _+_, _*_, _^_, _%_, _≤_, _<_}
+use Prim.Native.Nat.{ℕ, _^_, _%_, _≤_, _<_}
 use native.Mathlib.Omega.{arith}
 use mathlib.Core.Path.{_≡_, refl, sym, ap, _∙_}
 use mathlib.Core.Bool.{Bool, true, false}
-use mathlib.Core.List.{List, []}
+use mathlib.Core.List.{List}
 use lib.ListN.{length, replicate}
 use Rattle.bit_fields.proofs.BitsLaws.{power-is}
 use Rattle.bit_fields.proofs.ChoiceLaws.{either}
@@ -28,7 +28,7 @@ use Rattle.registers.specs.declared.Registers.{Registers}
 use Rattle.registers.proofs.SizesLaws.{oas-at-most}
 use Rattle.memory_image.specs.Extent.{extentOf, endOf, below, refusal2}
 use Rattle.memory_image.specs.Words.{bytes}
-use Rattle.memory_image.specs.Rule.{Ran, Fetches, Every, Gives, run}
+use Rattle.memory_image.specs.Rule.{Fetches, Every, Gives, run}
 use Rattle.memory_image.proofs.RunLaws.{fetches-then, run-few, every-then, gives-then}
 use Rattle.memory_image.proofs.BelowLaws.{run-below}
 use Rattle.answers.specs.Layout.{piecesMost, answerWords}
@@ -55,7 +55,7 @@ use Rattle.context_table.specs.declared.Found.{Found as CdFound}
 use Rattle.context_table.specs.declared.Found.the-variants as context
 use Rattle.context_table.proofs.ContextLaws.{EndsProper as ContextProper, context-few, context-every, context-proper}
 use Rattle.context_entry.proofs.EntryLaws.{cd-proper}
-use Rattle.lookup.specs.Lookup.{fromCd, fromEntry, fromSte, lookupRule, ruled, refusedWith, answered, lookedUp, answerSays, answerPut, LooksUp}
+use Rattle.lookup.specs.Lookup.{fromCd, fromEntry, fromSte, lookupRule, ruled, lookedUp, answerSays, answerPut, LooksUp}
 use Rattle.lookup.specs.declared.Looked.{Looked}
 use Rattle.lookup.specs.declared.Answer.{Answer}
 use Rattle.lookup.specs.declared.Answer.the-variants.{Refused, Is}
@@ -218,9 +218,9 @@ module _ (r : Registers) (base : ℕ) (memory : List ℕ) (request : Request) wh
   module _ {narrow : List ℕ} (is-narrow : narrow ≡ wordsOfRegisters r) {given substream : ℕ} (is-given : given ≡ givenOf (request .substream))
       (is-substream : substream ≡ numberOf (request .substream)) {number : ℕ} {after : List ℕ}
       (is :
-          LooksUp
-          (lookedUp (registersFrom narrow (r .«strtab_base»)) base memory (requestFrom (request .stream .number) given substream))
-          (replicate answerWords 0) number after)
+      LooksUp
+      (lookedUp (registersFrom narrow (r .«strtab_base»)) base memory (requestFrom (request .stream .number) given substream))
+      (replicate answerWords 0) number after)
       {list : Pieces} (read : list ≡ listOf after) where
     Into : Looked → Type 0
     Into looked = LooksUp looked (replicate answerWords 0) number after

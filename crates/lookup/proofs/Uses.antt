@@ -1,13 +1,11 @@
 -- What follows from the claims: specs/Uses.antt, each from the claims that it names.
 -- Assumes: nothing.
-use Prim.Native.Nat.{ℕ, zero, suc, _+_, _^_, _≤_, _<_}
+use Prim.Native.Nat.{ℕ, zero, suc, _≤_, _<_}
 use native.Mathlib.Omega.{arith}
 use mathlib.Core.Path.{_≡_, refl}
-use mathlib.Core.List.{List, []}
-use mathlib.Core.Logic.{_⊎_, inl, inr}
+use mathlib.Core.List.{[]}
+use mathlib.Core.Logic.{inl, inr}
 use lib.ListN.{getD}
-use Rattle.ids.specs.declared.Request.{Request}
-use Rattle.registers.specs.declared.Registers.{Registers}
 use Rattle.memory_image.specs.declared.Piece.{Piece}
 use Rattle.answers.specs.Pieces.{nothing}
 use Rattle.lookup.specs.Claims.{DescriptorLong}

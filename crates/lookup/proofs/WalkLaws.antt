@@ -5,7 +5,7 @@
 --     stream-ended, stream-goes           from the stream
 -- Assumes: nothing.
 use Prim.Native.Nat.{ℕ}
-use mathlib.Core.Path.{_≡_, refl, sym, ap, _∙_}
+use mathlib.Core.Path.{_≡_, refl}
 use mathlib.Core.List.{List}
 use Rattle.ids.specs.declared.Request.{Request}
 use Rattle.ids.specs.declared.Substream.{Substream}

@@ -5,14 +5,14 @@
 use Prim.Native.Nat.{ℕ, _+_, _-_, _*_, _≤_, _<_, min}
 use native.Mathlib.Nat.{sub-zero}
 use native.Mathlib.Omega.{arith}
-use mathlib.Core.Path.{_≡_, refl, sym, ap, _∙_}
+use mathlib.Core.Path.{_≡_, refl, sym, _∙_}
 use mathlib.Core.Bool.{Bool, true, false, _&&_}
 use mathlib.Core.List.{List, []}
 use borrow.Author.Tests.{leb-true, leb-false}
 use lib.Dec.{leb}
 use lib.ListN.{length, take, length-take}
 use lib.Seq.{take-all, getD-take}
-use Rattle.memory_image.specs.Extent.{Extent, extentOf, endOf, below, fetched}
+use Rattle.memory_image.specs.Extent.{extentOf, endOf, below, fetched}
 use Rattle.memory_image.specs.Words.{bytes}
 use Rattle.memory_image.specs.Rule.{Rule, done, fetch, run, wordsAt, piece, Every}
 use Rattle.memory_image.proofs.ExtentLaws.{fetched-lies}

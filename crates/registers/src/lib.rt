@@ -3,8 +3,8 @@
 ghost use mathlib.Core.Path.{_≡_};
 ghost use Rattle.registers.specs.Sizes.{oasSize, refusal1, sizeOf};
 
-mod fields;
 mod by_words;
+mod fields;
 
 // How many of the registers have 32 bits: all but STRTAB_BASE.
 pub const REGISTER_WORDS: usize = 7;

@@ -5,12 +5,9 @@
 use Prim.Native.Nat.{ℕ, _+_, _-_, _*_, _/_, _≤_, _<_}
 use native.Mathlib.Omega.{arith}
 use native.Mathlib.Nat.{div-lt-iff-lt-mul, le-div-iff-mul-le, mul-comm}
-use mathlib.Core.Path.{_≡_, refl}
-use mathlib.Core.Bool.{Bool, true, false, _&&_}
-use borrow.Author.Tests.{le-leb, lt-leb, leb-true}
-use lib.Dec.{leb}
+use mathlib.Core.Path.{_≡_}
+use borrow.Author.Tests.{le-leb, lt-leb}
 use Rattle.script.specs.Place.{placeRule}
-use Rattle.script.specs.declared.edits.Place.{Place}
 use Rattle.script.specs.declared.edits.Place.the-variants.{At, Outside}
 
 module _ (base length address times bytes : ℕ) where

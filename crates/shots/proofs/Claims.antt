@@ -1,10 +1,10 @@
 -- The claims of specs/Claims.antt, each under its own name. The table is computed.
 -- Assumes: nothing.
-use Prim.Native.Nat.{ℕ, zero, suc, _+_, _^_, _<_}
+use Prim.Native.Nat.{ℕ, zero, suc, _+_, _^_}
 use native.Mathlib.Omega.{arith}
 use native.Mathlib.Nat.{add-zero, zero-add}
-use mathlib.Core.Path.{_≡_, refl, sym, ap, _∙_, fun-ext}
-use mathlib.Core.Bool.{Bool, true, false}
+use mathlib.Core.Path.{_≡_, refl, ap, _∙_, fun-ext}
+use mathlib.Core.Bool.{false}
 use mathlib.Core.List.{List, [], _∷_}
 use lib.Dec.{leb·zero, leb·suc-zero, leb·suc-suc}
 use lib.ListN.{length, getD}
@@ -15,7 +15,7 @@ use Rattle.registers.specs.declared.Registers.{Registers}
 use Rattle.memory_image.specs.Extent.{extentOf, refusal2, fetched}
 use Rattle.memory_image.specs.Rule.{run, andThen}
 use Rattle.memory_image.specs.Words.{bytes, word}
-use Rattle.stream_table.specs.StreamTable.{streamRule, linear, splitOf, l1stdAt, holds, leafRule, twoLevelRule}
+use Rattle.stream_table.specs.StreamTable.{streamRule, isLinear, splitOf, l1stdAt, stesHeld, leafRule, twoLevelRule}
 use Rattle.stream_entry.specs.StreamEntry.{steRule, notThere, stage1Rule, badStage1, withId}
 use Rattle.context_table.specs.ContextTable.{contextRule, leafBits, twoLevelRule as cdTwoLevelRule, l1cdRule}
 use Rattle.context_entry.specs.ContextEntry.{cdRule, effectiveIps}
@@ -24,11 +24,11 @@ use Rattle.lookup.proofs.Claims.{refused-exactly}
 use Rattle.placed.specs.From.{valuesFrom, tab}
 use Rattle.placed.proofs.FromLaws.{values-length}
 use Rattle.book.specs.Book.{shares}
-use Rattle.shots.specs.Shots.{Shot, shots, byteOf, whole, clip, given, expected}
+use Rattle.shots.specs.Shots.{Shot, shots, byteOf, whole, clip, expected}
 use Rattle.shots.specs.Claims.{EachShot, Right, AllShots, RealShots, SharedSte}
 
 pub all-shots : AllShots
-unfolding run fetched word lookupRule andThen fromSte fromEntry fromCd streamRule linear splitOf l1stdAt holds leafRule twoLevelRule steRule notThere stage1Rule badStage1 withId contextRule leafBits cdTwoLevelRule l1cdRule cdRule effectiveIps sizeOf oasSize refusal1 refusal3
+unfolding run fetched word lookupRule andThen fromSte fromEntry fromCd streamRule isLinear splitOf l1stdAt stesHeld leafRule twoLevelRule steRule notThere stage1Rule badStage1 withId contextRule leafBits cdTwoLevelRule l1cdRule cdRule effectiveIps sizeOf oasSize refusal1 refusal3
 all-shots = (
   record { says = refl; registers-taken = refl; request-taken = refl },
   (

@@ -9,7 +9,6 @@ use borrow.Author.Tests.{eqb-true, ne-eqb}
 use lib.Dec.{eqb}
 use lib.ListN.{length, getD}
 use Rattle.bit_fields.specs.Choice.{if_then_else_}
-use Rattle.bit_fields.specs.Bits.{low, high, field, inBits}
 use Rattle.ids.specs.Ids.{refusal3}
 use Rattle.ids.specs.Packing.{packed, unpacked}
 use Rattle.ids.specs.declared.Request.{Request}
@@ -27,7 +26,7 @@ use Rattle.answers.specs.Proper.{listedEvent, properOutcome, properPieces}
 use Rattle.answers.specs.declared.Outcome.the-variants.{Abort, Bypass, Quiet}
 use Rattle.answers.specs.declared.Pieces.{Pieces}
 use Rattle.answer_words.specs.AnswerWords.{laidOut, wordsOf, outcomeOf, listOf, stands}
-use Rattle.stream_table.specs.StreamTable.{streamRule, linear, splitOf, l1stdAt, holds, leafRule, twoLevelRule}
+use Rattle.stream_table.specs.StreamTable.{streamRule, isLinear, splitOf, l1stdAt, stesHeld, leafRule, twoLevelRule}
 use Rattle.stream_entry.specs.StreamEntry.{steRule, notThere, stage1Rule, badStage1, withId}
 use Rattle.context_table.specs.ContextTable.{contextRule, leafBits, twoLevelRule as cdTwoLevelRule, l1cdRule}
 use Rattle.context_entry.specs.ContextEntry.{cdRule, effectiveIps}
@@ -202,7 +201,7 @@ byte-now : ℕ → ℕ
 byte-now i = if eqb (0 + i) 0x2f00 then clip 0x10000 (byteOf ((0x2f00, 0x01) ∷ [])) i else clip 0x10000 (byteOf figure) i
 
 quiet-now : run whole (2 ^ oasSize plain) (clip 0x10000 byte-now) (lookupRule plain (of 256 Without)) ≡ record { answer = Quiet; list = piece 0x8008 8 ∷ (piece 0x2f00 64 ∷ []) }
-unfolding run fetched word lookupRule andThen fromSte fromEntry fromCd streamRule linear splitOf l1stdAt holds leafRule twoLevelRule steRule notThere stage1Rule badStage1 withId contextRule leafBits cdTwoLevelRule l1cdRule cdRule effectiveIps sizeOf oasSize byte-now
+unfolding run fetched word lookupRule andThen fromSte fromEntry fromCd streamRule isLinear splitOf l1stdAt stesHeld leafRule twoLevelRule steRule notThere stage1Rule badStage1 withId contextRule leafBits cdTwoLevelRule l1cdRule cdRule effectiveIps sizeOf oasSize byte-now
 quiet-now = refl
 
 -- the edited memory, and what a new lookup there gives

@@ -3,7 +3,6 @@
 --     RealShots     and so does a lookup in a real memory of 65,536 bytes
 --     SharedSte     P10: a notice of one byte at 0x2F00 shares an address with the lists of 188 and of 256
 -- Assumes: nothing.
-use Prim.Native.Nat.{ℕ, zero, suc, _+_}
 use mathlib.Core.Path.{_≡_}
 use mathlib.Core.Bool.{true, false}
 use mathlib.Core.List.{List, [], _∷_}

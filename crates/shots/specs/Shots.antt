@@ -3,7 +3,7 @@
 --     Shot        registers, the bytes of the memory that aren't 0, a request, and the answer and list that 01 gives
 --     given       what the rules give
 -- Assumes: nothing.
-use Prim.Native.Nat.{ℕ, zero, suc, _+_, _*_, _^_}
+use Prim.Native.Nat.{ℕ, _+_, _*_, _^_}
 use mathlib.Core.List.{List, [], _∷_, _++_}
 use lib.Dec.{eqb, ltb}
 use Rattle.bit_fields.specs.Choice.{if_then_else_}

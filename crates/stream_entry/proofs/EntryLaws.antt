@@ -5,7 +5,7 @@
 --     ste-proper    where it ends, it ends with a proper outcome
 -- Assumes: nothing.
 use Prim.Native.Nat.{ℕ, _≤_, _<_}
-use mathlib.Core.Path.{_≡_, refl, sym, ap, _∙_}
+use mathlib.Core.Path.{_≡_, refl}
 use mathlib.Core.Bool.{Bool, true, false, _&&_}
 use borrow.Author.Tests.{eq-eqb, ne-eqb, lt-ltb, le-ltb}
 use lib.Dec.{eqb, ltb}
@@ -21,7 +21,7 @@ use Rattle.answers.specs.declared.Outcome.{Outcome}
 use Rattle.answers.specs.declared.Outcome.the-variants.{Abort, Quiet, Bypass, Unserved}
 use Rattle.stream_entry.specs.StreamEntry.{v, config, stage2In, notThere, bypassRule, stage1Rule, steRule}
 use Rattle.stream_entry.specs.declared.Entry.{Entry}
-use Rattle.stream_entry.specs.declared.Entry.the-variants.{Ended, Stage1}
+use Rattle.stream_entry.specs.declared.Entry.the-variants.{Ended}
 use Rattle.stream_entry.proofs.Stage1Laws.{EndsProper, stage-proper}
 
 module _ (r : Registers) (c : ℕ) {a b : ℕ} (is-a : a ≡ bits 0 0 c) (is-b : b ≡ s1p r) {first : Bool}

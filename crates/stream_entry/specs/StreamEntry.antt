@@ -6,7 +6,7 @@
 -- Ours: Config 100 with a SubstreamID is C_BAD_SUBSTREAMID (5); the checks of step 6 are 01's, and 003 calls S1Fmt 3 and S1DSS 3 "behaves as 0".
 -- Assumes: nothing.
 use Prim.Native.Nat.{ℕ, _*_, _^_}
-use mathlib.Core.Bool.{Bool, true, false, not, _&&_, _||_}
+use mathlib.Core.Bool.{Bool, not, _&&_, _||_}
 use lib.Dec.{eqb, leb, ltb}
 use Rattle.bit_fields.specs.Bits.{bits, bitsOf}
 use Rattle.bit_fields.specs.Choice.{if_then_else_}

@@ -5,7 +5,7 @@
 --     stream-unread               where none is fetched whatever the memory holds
 --     stream-proper               where it ends, it ends with a proper outcome
 -- Assumes: nothing.
-use Prim.Native.Nat.{ℕ, _+_, _-_, _*_, _^_, _≤_, _<_}
+use Prim.Native.Nat.{ℕ, _-_, _^_, _≤_}
 use native.Mathlib.Omega.{arith}
 use mathlib.Core.Path.{_≡_, refl, sym, ap, _∙_}
 use mathlib.Core.Bool.{Bool, true, false, not}
@@ -29,7 +29,7 @@ use Rattle.answers.specs.Pieces.{pushPiece}
 use Rattle.answers.specs.Walk.{Walks}
 use Rattle.answers.specs.Proper.{listedEvent, properOutcome}
 use Rattle.answers.specs.declared.Outcome.{Outcome}
-use Rattle.answers.specs.declared.Outcome.the-variants.{Abort, Quiet, BypassGlobal}
+use Rattle.answers.specs.declared.Outcome.the-variants.{Abort}
 use Rattle.answers.proofs.WalkLaws.{walk-done, fault-one, read-one}
 use Rattle.stream_table.specs.StreamTable.{switchedOff, log2, isLinear, linearAt, splitOf, l1stdAt, stesHeld, spanOf, inLeaf, leafRule, twoLevelRule, streamRule}
 use Rattle.stream_table.specs.declared.Found.{Found}

@@ -9,7 +9,7 @@
 --     count-less, count-later                and that it ends
 --     nth-begin, nth-more, nth-here          the loop that looks for one of them
 -- Assumes: nothing.
-use Prim.Native.Nat.{ℕ, zero, suc, _+_, _-_, _≤_, _<_}
+use Prim.Native.Nat.{ℕ, suc, _+_, _-_, _≤_, _<_}
 use native.Mathlib.Omega.{arith}
 use native.Mathlib.Numerals.{add-one}
 use mathlib.Core.Path.{_≡_, refl, sym, ap, _∙_}
@@ -19,8 +19,7 @@ use borrow.Author.Tests.{eq-eqb, ne-eqb, ltb-true, ltb-false}
 use lib.Dec.{ltb}
 use lib.ListN.{length, take, drop, getD, length-drop, drop-of-length-le, List·getD-eq-default}
 use lib.Seq.{drop-cons, drop-drop, take-nil}
-use Rattle.number_laws.proofs.Tests.{not-both}
-use Rattle.words.specs.Words.{isBlank, ended, wordsFrom, wordsOf, withoutReturn, stops, passed}
+use Rattle.words.specs.Words.{isBlank, wordsFrom, wordsOf, withoutReturn, stops, passed}
 
 module _ (line : List ℕ) where
   pub return-none : length line ≡ 0 → line ≡ withoutReturn line

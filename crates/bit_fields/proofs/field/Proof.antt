@@ -5,14 +5,8 @@ use Rattle.bit_fields.proofs.BitsLaws.{field-by}
 use Rattle.bit_fields.proofs.field.Statement.{statement}
 use Rattle.bit_fields.proofs.field.Tie as tie
 
-high-requires : tie.Need-high-requires
-high-requires c κs = search needs
-
-low-requires : tie.Need-low-requires
-low-requires c κs = search needs
-
 returns : tie.Need-returns
 returns c = search (needs, field-by)
 
 pub field-spec : {M : Type 1} → statement M
-field-spec = tie.close (tie.spec high-requires low-requires returns)
+field-spec = tie.close (tie.spec (λ c κs. search needs) (λ c κs. search needs) returns)

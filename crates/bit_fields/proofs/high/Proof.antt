@@ -5,9 +5,6 @@ use Rattle.bit_fields.proofs.BitsLaws.{high-by, high-none}
 use Rattle.bit_fields.proofs.high.Statement.{statement}
 use Rattle.bit_fields.proofs.high.Tie as tie
 
-shr-result : tie.Need-shr-result
-shr-result c = search needs
-
 returns : tie.Need-returns
 returns c = search (needs, high-by)
 
@@ -15,4 +12,4 @@ returns-2 : tie.Need-returns-2
 returns-2 c = search (needs, high-none 64)
 
 pub high-spec : {M : Type 1} → statement M
-high-spec = tie.close (tie.spec shr-result returns returns-2)
+high-spec = tie.close (tie.spec (λ c. search needs) returns returns-2)

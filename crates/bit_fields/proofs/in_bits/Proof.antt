@@ -5,11 +5,8 @@ use Rattle.bit_fields.proofs.BitsLaws.{in-bits-by}
 use Rattle.bit_fields.proofs.in_bits.Statement.{statement}
 use Rattle.bit_fields.proofs.in_bits.Tie as tie
 
-high-requires : tie.Need-high-requires
-high-requires c κs = search needs
-
 returns : tie.Need-returns
 returns c = search (needs, in-bits-by)
 
 pub in-bits-spec : {M : Type 1} → statement M
-in-bits-spec = tie.close (tie.spec high-requires returns)
+in-bits-spec = tie.close (tie.spec (λ c κs. search needs) returns)

@@ -5,9 +5,6 @@ use Rattle.bit_fields.proofs.BitsLaws.{power-some, low-by, low-all}
 use Rattle.bit_fields.proofs.low.Statement.{statement}
 use Rattle.bit_fields.proofs.low.Tie as tie
 
-power-requires : tie.Need-power-requires
-power-requires c κs = search needs
-
 rem-result : tie.Need-rem-result
 rem-result c = search (needs, power-some 64)
 
@@ -18,4 +15,4 @@ returns-2 : tie.Need-returns-2
 returns-2 c = search (needs, low-all 64)
 
 pub low-spec : {M : Type 1} → statement M
-low-spec = tie.close (tie.spec power-requires rem-result returns returns-2)
+low-spec = tie.close (tie.spec (λ c κs. search needs) rem-result returns returns-2)

@@ -8,14 +8,8 @@ use Rattle.registers.proofs.size_of.Tie as tie
 returns : tie.Need-returns
 returns c = search (needs, size-none)
 
-mul-field : tie.Need-mul-field
-mul-field c = search needs
-
-field-requires : tie.Need-field-requires
-field-requires c κs = search needs
-
 returns-2 : tie.Need-returns-2
 returns-2 c = search (needs, size-packed)
 
 pub size-of-spec : {M : Type 1} → statement M
-size-of-spec = tie.close (tie.spec returns mul-field field-requires returns-2)
+size-of-spec = tie.close (tie.spec returns (λ c. search needs) (λ c κs. search needs) returns-2)

@@ -17,20 +17,11 @@ Inv-loop line n₀ start₀ n start =
 abbrev μ-loop : tie.MeasureT-loop
 μ-loop line n₀ start₀ n start = length line - start
 
-until-requires : tie.Need-until-requires Inv-loop μ-loop
-until-requires c κs = search needs
-
 loop-holds : tie.Need-loop-holds Inv-loop μ-loop
 loop-holds c = (search needs, search (needs, starts-after), search (needs, count-begin))
 
-until-requires-2 : tie.Need-until-requires-2 Inv-loop μ-loop
-until-requires-2 c κs = search needs
-
 until-requires-3 : tie.Need-until-requires-3 Inv-loop μ-loop
 until-requires-3 c κs = search (needs, end-within)
-
-add-n : tie.Need-add-n Inv-loop μ-loop
-add-n c = search needs
 
 loop-less : tie.Need-loop-less Inv-loop μ-loop
 loop-less c = search (needs, count-less)
@@ -43,5 +34,5 @@ returns c = search (needs, count-end)
 
 pub count-spec : {M : Type 1} → statement M
 count-spec =
-    tie.close (tie.spec Inv-loop μ-loop until-requires loop-holds until-requires-2 until-requires-3 add-n
+    tie.close (tie.spec Inv-loop μ-loop (λ c κs. search needs) loop-holds (λ c κs. search needs) until-requires-3 (λ c. search needs)
     loop-less loop-again returns)

@@ -18,35 +18,14 @@ Inv-loop line k start₀ i₀ start i =
 abbrev μ-loop : tie.MeasureT-loop
 μ-loop line k start₀ i₀ start i = k - i
 
-until-requires : tie.Need-until-requires Inv-loop μ-loop
-until-requires c κs = search needs
-
 loop-holds : tie.Need-loop-holds Inv-loop μ-loop
 loop-holds c = (search needs, search (needs, starts-after), search (needs, nth-begin))
-
-until-requires-2 : tie.Need-until-requires-2 Inv-loop μ-loop
-until-requires-2 c κs = search needs
 
 until-requires-3 : tie.Need-until-requires-3 Inv-loop μ-loop
 until-requires-3 c κs = search (needs, end-within)
 
-add-i : tie.Need-add-i Inv-loop μ-loop
-add-i c = search needs
-
-loop-less : tie.Need-loop-less Inv-loop μ-loop
-loop-less c = search needs
-
 loop-again : tie.Need-loop-again Inv-loop μ-loop
 loop-again c = (search needs, search (needs, starts-next), search (needs, nth-more))
-
-until-requires-4 : tie.Need-until-requires-4 Inv-loop μ-loop
-until-requires-4 c κs = search needs
-
-sub-result : tie.Need-sub-result Inv-loop μ-loop
-sub-result c = search needs
-
-part-result-start : tie.Need-part-result-start Inv-loop μ-loop
-part-result-start c = search needs
 
 part-result-end : tie.Need-part-result-end Inv-loop μ-loop
 part-result-end c = search (needs, end-within)
@@ -56,5 +35,5 @@ returns c = search (needs, nth-here)
 
 pub nth-spec : {M : Type 1} → statement M
 nth-spec =
-    tie.close (tie.spec Inv-loop μ-loop until-requires loop-holds until-requires-2 until-requires-3 add-i
-    loop-less loop-again until-requires-4 sub-result part-result-start part-result-end returns)
+    tie.close (tie.spec Inv-loop μ-loop (λ c κs. search needs) loop-holds (λ c κs. search needs) until-requires-3 (λ c. search needs)
+    (λ c. search needs) loop-again (λ c κs. search needs) (λ c. search needs) (λ c. search needs) part-result-end returns)

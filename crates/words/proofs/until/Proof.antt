@@ -16,23 +16,8 @@ Inv-loop line from blank at₀ at =
 abbrev μ-loop : tie.MeasureT-loop
 μ-loop line from blank at₀ at = length line - at
 
-loop-holds : tie.Need-loop-holds Inv-loop μ-loop
-loop-holds c = search needs
-
-shared-slice-read-is : tie.Need-shared-slice-read-is Inv-loop μ-loop
-shared-slice-read-is c = search needs
-
-is-requires : tie.Need-is-requires Inv-loop μ-loop
-is-requires c κs = search needs
-
 returns : tie.Need-returns Inv-loop μ-loop
 returns c = search (needs, passed-here)
-
-add-at : tie.Need-add-at Inv-loop μ-loop
-add-at c = search needs
-
-loop-less : tie.Need-loop-less Inv-loop μ-loop
-loop-less c = search needs
 
 loop-again : tie.Need-loop-again Inv-loop μ-loop
 loop-again c = (search needs, search (needs, passed-more))
@@ -42,5 +27,5 @@ returns-2 c = search (needs, passed-end)
 
 pub until-spec : {M : Type 1} → statement M
 until-spec =
-    tie.close (tie.spec Inv-loop μ-loop loop-holds shared-slice-read-is is-requires returns add-at loop-less
+    tie.close (tie.spec Inv-loop μ-loop (λ c. search needs) (λ c. search needs) (λ c κs. search needs) returns (λ c. search needs) (λ c. search needs)
     loop-again returns-2)

@@ -8,21 +8,6 @@ use Rattle.words.proofs.without_return.Tie as tie
 returns : tie.Need-returns
 returns c = search (needs, return-none)
 
-sub-last : tie.Need-sub-last
-sub-last c = search needs
-
-shared-slice-read-if2 : tie.Need-shared-slice-read-if2
-shared-slice-read-if2 c = search needs
-
-sub-result : tie.Need-sub-result
-sub-result c = search needs
-
-part-result-start : tie.Need-part-result-start
-part-result-start c = search needs
-
-part-result-end : tie.Need-part-result-end
-part-result-end c = search needs
-
 returns-2 : tie.Need-returns-2
 returns-2 c = search (needs, return-last)
 
@@ -31,5 +16,5 @@ returns-3 c = search (needs, return-no)
 
 pub without-return-spec : {M : Type 1} → statement M
 without-return-spec =
-    tie.close (tie.spec returns sub-last shared-slice-read-if2 sub-result part-result-start part-result-end
+    tie.close (tie.spec returns (λ c. search needs) (λ c. search needs) (λ c. search needs) (λ c. search needs) (λ c. search needs)
     returns-2 returns-3)

@@ -11,9 +11,6 @@ returns c = search (needs, place-before)
 returns-2 : tie.Need-returns-2
 returns-2 c = search (needs, place-after)
 
-div-if3 : tie.Need-div-if3
-div-if3 c = search needs
-
 returns-3 : tie.Need-returns-3
 returns-3 c = search (needs, place-past)
 
@@ -21,4 +18,4 @@ returns-4 : tie.Need-returns-4
 returns-4 c = search (needs, place-there)
 
 pub place-of-spec : {M : Type 1} → statement M
-place-of-spec = tie.close (tie.spec returns returns-2 div-if3 returns-3 returns-4)
+place-of-spec = tie.close (tie.spec returns returns-2 (λ c. search needs) returns-3 returns-4)

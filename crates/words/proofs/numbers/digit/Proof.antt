@@ -14,21 +14,6 @@ use Rattle.words.proofs.NumbersLaws.{
 use Rattle.words.proofs.numbers.digit.Statement.{statement}
 use Rattle.words.proofs.numbers.digit.Tie as tie
 
-cast-result : tie.Need-cast-result
-cast-result c = search needs
-
-cast-result-2 : tie.Need-cast-result-2
-cast-result-2 c = search needs
-
-add-result : tie.Need-add-result
-add-result c = search needs
-
-cast-result-3 : tie.Need-cast-result-3
-cast-result-3 c = search needs
-
-add-result-2 : tie.Need-add-result-2
-add-result-2 c = search needs
-
 returns : tie.Need-returns
 returns c = digit-decimal _ (omega arith) (omega arith)
 
@@ -52,5 +37,5 @@ returns-7 c = digit-above _ (omega arith)
 
 pub digit-spec : {M : Type 1} → statement M
 digit-spec =
-    tie.close (tie.spec cast-result cast-result-2 add-result cast-result-3 add-result-2 returns returns-2
+    tie.close (tie.spec (λ c. search needs) (λ c. search needs) (λ c. search needs) (λ c. search needs) (λ c. search needs) returns returns-2
     returns-3 returns-4 returns-5 returns-6 returns-7)

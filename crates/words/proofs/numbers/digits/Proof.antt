@@ -3,8 +3,7 @@
 use Prim.Native.Nat.{_≤_, _-_}
 use lib.ListN.{length, drop}
 use borrow.Author.Needs.{needs}
-use native.Mathlib.Omega.{arith}
-use mathlib.Core.Path.{_≡_, sym, _∙_}
+use mathlib.Core.Path.{_≡_}
 use Rattle.words.specs.Numbers.{digitsRule, digitsFrom}
 use Rattle.words.proofs.NumbersLaws.{digits-none, digits-begin, digits-end, digits-not, digits-more}
 use Rattle.words.proofs.numbers.digits.Statement.{statement}
@@ -23,23 +22,8 @@ returns c = search (needs, digits-none)
 loop-holds : tie.Need-loop-holds Inv-loop μ-loop
 loop-holds c = (search needs, digits-begin _ _ (c .if1 .left))
 
-shared-slice-read-digit : tie.Need-shared-slice-read-digit Inv-loop μ-loop
-shared-slice-read-digit c = search needs
-
-digit-requires : tie.Need-digit-requires Inv-loop μ-loop
-digit-requires c κs = search needs
-
 returns-2 : tie.Need-returns-2 Inv-loop μ-loop
 returns-2 c = search (needs, digits-not)
-
-pushed-requires : tie.Need-pushed-requires Inv-loop μ-loop
-pushed-requires c κs = search needs
-
-add-i : tie.Need-add-i Inv-loop μ-loop
-add-i c = search needs
-
-loop-less : tie.Need-loop-less Inv-loop μ-loop
-loop-less c = search needs
 
 loop-again : tie.Need-loop-again Inv-loop μ-loop
 loop-again c = (search needs, search (needs, digits-more))
@@ -49,5 +33,5 @@ returns-3 c = search (needs, digits-end)
 
 pub digits-spec : {M : Type 1} → statement M
 digits-spec =
-    tie.close (tie.spec Inv-loop μ-loop returns loop-holds shared-slice-read-digit digit-requires returns-2
-    pushed-requires add-i loop-less loop-again returns-3)
+    tie.close (tie.spec Inv-loop μ-loop returns loop-holds (λ c. search needs) (λ c κs. search needs) returns-2
+    (λ c κs. search needs) (λ c. search needs) (λ c. search needs) loop-again returns-3)

@@ -24,20 +24,8 @@ returns-2 c = search (needs, pairs-odd)
 loop-holds : tie.Need-loop-holds Inv-loop μ-loop
 loop-holds c = (search needs, search (needs, pairs-begin))
 
-shared-slice-read-digit : tie.Need-shared-slice-read-digit Inv-loop μ-loop
-shared-slice-read-digit c = search needs
-
-digit-requires : tie.Need-digit-requires Inv-loop μ-loop
-digit-requires c κs = search needs
-
 returns-3 : tie.Need-returns-3 Inv-loop μ-loop
 returns-3 c = search (needs, pairs-not)
-
-add-i : tie.Need-add-i Inv-loop μ-loop
-add-i c = search needs
-
-loop-less : tie.Need-loop-less Inv-loop μ-loop
-loop-less c = search needs
 
 loop-again : tie.Need-loop-again Inv-loop μ-loop
 loop-again c = (search needs, search (needs, pairs-more))
@@ -47,5 +35,5 @@ returns-4 c = search (needs, pairs-end)
 
 pub is-pairs-spec : {M : Type 1} → statement M
 is-pairs-spec =
-    tie.close (tie.spec Inv-loop μ-loop returns returns-2 loop-holds shared-slice-read-digit digit-requires
-    returns-3 add-i loop-less loop-again returns-4)
+    tie.close (tie.spec Inv-loop μ-loop returns returns-2 loop-holds (λ c. search needs) (λ c κs. search needs)
+    returns-3 (λ c. search needs) (λ c. search needs) loop-again returns-4)
