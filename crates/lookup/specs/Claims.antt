@@ -11,7 +11,7 @@
 use Prim.Native.Nat.{ℕ, _^_, _≤_}
 use mathlib.Core.Path.{_≡_}
 use mathlib.Core.Bool.{true, false}
-use mathlib.Core.List.{List, _∷_}
+use mathlib.Core.List.{List, [], _∷_}
 use mathlib.Core.Logic.{_⊎_}
 use lib.ListN.{length, replicate}
 use denote.Ref.{RefT, ptr, now}
@@ -21,6 +21,7 @@ use Rattle.ids.specs.declared.Substream.{Substream}
 use Rattle.ids.specs.declared.Substream.the-variants.{Without, With}
 use Rattle.registers.specs.Fields.{smmuEn}
 use Rattle.registers.specs.Sizes.{refusal1, oasSize}
+use Rattle.registers.specs.Words.{registersFrom}
 use Rattle.registers.specs.declared.Registers.{Registers}
 use Rattle.memory_image.specs.Extent.{extentOf, refusal2}
 use Rattle.memory_image.specs.Rule.{Agree, Lies}
@@ -91,19 +92,9 @@ AnswersProper =
     (r : Registers) (base : ℕ) (memory : List ℕ) (request : Request) (outcome : Outcome) (l : Pieces)
     → lookedUp r base memory request ≡ record { answer = Is outcome; list = l } → ProperAnswer outcome l
 
--- one STE of 64 bytes, V 1 and Config 100, in a linear table of one entry at address 0, with a 32-bit OAS
+-- one STE of 64 bytes, V 1 and Config 100, in a linear table of one entry at address 0, with a 32-bit OAS: CR0 is 1, and every other register 0
 abbrev pub smallRegisters : Registers
-smallRegisters =
-    record {
-      idr0 = 0;
-      idr1 = 0;
-      idr5 = 0;
-      cr0 = 1;
-      cr2 = 0;
-      gbpa = 0;
-      «strtab_base» = 0;
-      «strtab_base_cfg» = 0;
-    }
+smallRegisters = registersFrom (0 ∷ (0 ∷ (0 ∷ (1 ∷ [])))) 0
 
 abbrev pub smallMemory : List ℕ
 smallMemory = 9 ∷ replicate 63 0

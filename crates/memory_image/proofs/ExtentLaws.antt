@@ -1,11 +1,11 @@
 -- Refusal 2 and the fetch, by the tests that the code makes.
 --     refused-base, refused-length, refused-end   which clause refuses; the last decides
 --     accepted                                    what an extent that is not refused has
---     before, past-end, past-limit, had           the ways of a fetch, by where the bytes lie
+--     before, past-end, had                       the ways of a fetch, by where the bytes lie
 --     fetched-lies, lies-fetched                  what is fetched lies in the memory and below the limit, and the other way round
 --     at-place, outside                           what the two answers say of the fetch
 -- Assumes: nothing.
-use Prim.Native.Nat.{ℕ, _+_, _-_, _%_, _^_, _≤_, _<_}
+use Prim.Native.Nat.{ℕ, _+_, _-_, _%_, _≤_, _<_}
 use native.Mathlib.Omega.{arith}
 use mathlib.Core.Path.{_≡_, refl, sym}
 use mathlib.Core.Bool.{Bool, true, false, not, _&&_, _||_}
@@ -13,7 +13,7 @@ use borrow.Author.Tests.{eq-eqb, ne-eqb, lt-ltb, le-ltb, le-leb, lt-leb, eqb-tru
 use lib.Dec.{eqb, ltb}
 use Rattle.number_laws.proofs.Tests.{both, not-both}
 use Rattle.bit_fields.specs.Choice.{if_then_else_}
-use Rattle.memory_image.specs.Extent.{Extent, refusal2, fetched, fetchRule}
+use Rattle.memory_image.specs.Extent.{Extent, memoryMost, addressTop, refusal2, fetched, fetchRule}
 use Rattle.memory_image.specs.Rule.{Lies}
 use Rattle.memory_image.specs.declared.Piece.{Piece}
 use Rattle.memory_image.specs.declared.Fetched.{Fetched}
@@ -27,43 +27,43 @@ module _ (base length : ℕ) where
   unfolding refusal2
   refused-base odd = simp (ne-eqb _ _ odd)
 
-  pub refused-length : base % 64 ≡ 0 → 65536 < length → true ≡ refusal2 e
+  pub refused-length : base % 64 ≡ 0 → memoryMost < length → true ≡ refusal2 e
   unfolding refusal2
   refused-length even long = simp (eq-eqb _ _ even, lt-ltb _ _ long)
 
-  pub refused-end : base % 64 ≡ 0 → length ≤ 65536 → ltb (2 ^ 52 - length) base ≡ refusal2 e
+  pub refused-end : base % 64 ≡ 0 → length ≤ memoryMost → ltb (addressTop - length) base ≡ refusal2 e
   unfolding refusal2
-  refused-end even fits = simp (eq-eqb _ _ even, le-ltb _ _ fits) (go (ltb (2 ^ 52 - length) base) refl)
+  refused-end even fits = simp (eq-eqb _ _ even, le-ltb _ _ fits) (go (ltb (addressTop - length) base) refl)
     where
-      go : (b : Bool) → ltb (2 ^ 52 - length) base ≡ b → b ≡ ltb (2 ^ 52) (base + length)
+      go : (b : Bool) → ltb (addressTop - length) base ≡ b → b ≡ ltb (addressTop) (base + length)
       go true is =
-          let past = ltb-true (2 ^ 52 - length) base is in
-          sym (lt-ltb (2 ^ 52) (base + length) (omega arith))
+          let past = ltb-true (addressTop - length) base is in
+          sym (lt-ltb (addressTop) (base + length) (omega arith))
       go false is =
-          let below = ltb-false (2 ^ 52 - length) base is in
-          sym (le-ltb (2 ^ 52) (base + length) (omega arith))
+          let below = ltb-false (addressTop - length) base is in
+          sym (le-ltb (addressTop) (base + length) (omega arith))
 
 pub record Accepted (e : Extent) : Type 0 where
   pub aligned : e .base % 64 ≡ 0
-  pub short : e .length ≤ 65536
-  pub below : e .base + e .length ≤ 2 ^ 52
+  pub short : e .length ≤ memoryMost
+  pub below : e .base + e .length ≤ addressTop
 
 pub accepted : (e : Extent) → refusal2 e ≡ false → Accepted e
 unfolding refusal2
 accepted e is =
-    go (eqb (e .base % 64) 0) refl (ltb 65536 (e .length)) refl (ltb (2 ^ 52) (e .base + e .length)) refl is
+    go (eqb (e .base % 64) 0) refl (ltb memoryMost (e .length)) refl (ltb (addressTop) (e .base + e .length)) refl is
   where
     go :
-        (a : Bool) → eqb (e .base % 64) 0 ≡ a → (b : Bool) → ltb 65536 (e .length) ≡ b
-        → (c : Bool) → ltb (2 ^ 52) (e .base + e .length) ≡ c → not a || (b || c) ≡ false → Accepted e
+        (a : Bool) → eqb (e .base % 64) 0 ≡ a → (b : Bool) → ltb memoryMost (e .length) ≡ b
+        → (c : Bool) → ltb (addressTop) (e .base + e .length) ≡ c → not a || (b || c) ≡ false → Accepted e
     go false x b y c z is = not-both is
     go true x true y c z is = not-both is
     go true x false y true z is = not-both is
     go true x false y false z is =
         record {
           aligned = eqb-true (e .base % 64) 0 x;
-          short = ltb-false 65536 (e .length) y;
-          below = ltb-false (2 ^ 52) (e .base + e .length) z;
+          short = ltb-false memoryMost (e .length) y;
+          below = ltb-false (addressTop) (e .base + e .length) z;
         }
 
 module _ (e : Extent) (limit : ℕ) (p : Piece) where
@@ -94,10 +94,6 @@ module _ (e : Extent) (limit address size : ℕ) where
   pub past-end : e .base + e .length < address + size → Outside ≡ fetchRule e limit address size
   unfolding fetchRule fetched
   past-end is = simp (lt-leb _ _ is, and-false)
-
-  pub past-limit : limit < address + size → Outside ≡ fetchRule e limit address size
-  unfolding fetchRule fetched
-  past-limit is = simp (lt-leb _ _ is, and-false)
 
   pub had : Lies e limit (record { address = address; length = size }) → At (address - e .base) ≡ fetchRule e limit address size
   unfolding fetchRule
