@@ -9,6 +9,7 @@ use borrow.Author.Tests.{eq-eqb, lt-ltb, le-ltb, ltb-true}
 use lib.Dec.{ltb}
 use lib.ListN.{length}
 use Rattle.bit_fields.specs.Choice.{if_then_else_}
+use Rattle.bit_fields.proofs.ChoiceLaws.{either}
 use Rattle.ids.specs.Ids.{refusal3}
 use Rattle.ids.specs.Packing.{packed, unpacked}
 use Rattle.ids.specs.declared.Request.{Request}
@@ -141,34 +142,27 @@ lowest-empty ws found = (
 pub kept-changes-nothing : KeptChangesNothing
 unfolding askBook
 kept-changes-nothing ws base size request new found =
-    simp (lt-ltb _ _ found) (go (refusal7 ws) (otherExtent ws base size) (refusal3 request))
+    simp (lt-ltb _ _ found)
+    (either Stays (refusal7 ws) refl (either Stays (otherExtent ws base size) refl (either Stays (refusal3 request) refl refl)))
   where
-    go : (a b c : Bool) → (if a then ws else if b then ws else if c then ws else ws) ≡ ws
-    go true b c = refl
-    go false true c = refl
-    go false false true = refl
-    go false false false = refl
+    Stays : List ℕ → Type 0
+    Stays after = after ≡ ws
 
 pub full-changes-nothing : FullChangesNothing
 unfolding askBook
 full-changes-nothing ws base size request new full =
     simp (le-ltb _ _ full)
-    (go (refusal7 ws) (otherExtent ws base size) (refusal3 request) (ltb (slotOf ws request) (slotsOf ws)) (new .answer))
+    (either Stays (refusal7 ws) refl
+    (either Stays (otherExtent ws base size) refl
+    (either Stays (refusal3 request) refl
+    (either Stays (ltb (slotOf ws request) (slotsOf ws)) refl (no-room (new .answer))))))
   where
-    go :
-        (a b c d : Bool) (answer : Answer)
-        → (if a then ws
-        else if b then ws
-        else if c then ws
-        else if d then ws
-        else nowHolding false ws (emptySlot ws) (packed request + 1) answer (new .list))
-        ≡ ws
-    go true b c d answer = refl
-    go false true c d answer = refl
-    go false false true d answer = refl
-    go false false false true answer = refl
-    go false false false false (looked.Refused n) = refl
-    go false false false false (looked.Is outcome) = refl
+    Stays : List ℕ → Type 0
+    Stays after = after ≡ ws
+
+    no-room : (answer : Answer) → nowHolding false ws (emptySlot ws) (packed request + 1) answer (new .list) ≡ ws
+    no-room (looked.Refused n) = refl
+    no-room (looked.Is outcome) = refl
 
 pub refused-changes-nothing : RefusedChangesNothing
 unfolding askBook askResult

@@ -10,6 +10,7 @@ use mathlib.Core.Logic.{_⊎_, inl, inr}
 use lib.Dec.{eqb, ltb}
 use lib.ListN.{length}
 use Rattle.bit_fields.specs.Choice.{if_then_else_}
+use Rattle.bit_fields.proofs.ChoiceLaws.{either}
 use Rattle.ids.specs.Ids.{refusal3}
 use Rattle.ids.specs.declared.Request.{Request}
 use Rattle.registers.specs.Sizes.{refusal1}
@@ -71,20 +72,14 @@ OneOf x y z n = (n ≡ x) ⊎ ((n ≡ y) ⊎ (n ≡ z))
 
 pub lookup-numbers : LookupNumbers
 unfolding lookedUp
-lookup-numbers r base memory request n is = go (refusal1 r) (refusal2 (extentOf base memory)) (refusal3 request) is
+lookup-numbers r base memory request n =
+    either Numbered (refusal1 r) (λ is. let same : 1 ≡ n = cc in inl (sym same))
+    (either Numbered (refusal2 (extentOf base memory)) (λ is. let same : 2 ≡ n = cc in inr (inl (sym same)))
+    (either Numbered (refusal3 request) (λ is. let same : 3 ≡ n = cc in inr (inr (sym same)))
+    (λ is. let z : _≡_ {A = ℕ} 0 1 = cc in absurd (omega arith))))
   where
-    go :
-        (a b c : Bool)
-        → (if a then refusedWith 1
-        else if b then refusedWith 2
-        else if c then refusedWith 3
-        else answered (ruled r base memory request)) .answer
-        ≡ answer.Refused n
-        → OneOf 1 2 3 n
-    go true b c is = let same : 1 ≡ n = cc in inl (sym same)
-    go false true c is = let same : 2 ≡ n = cc in inr (inl (sym same))
-    go false false true is = let same : 3 ≡ n = cc in inr (inr (sym same))
-    go false false false is = let z : _≡_ {A = ℕ} 0 1 = cc in absurd (omega arith)
+    Numbered : Looked → Type 0
+    Numbered looked = looked .answer ≡ answer.Refused n → OneOf 1 2 3 n
 
 -- the memory that an ask is handed is the book's
 same-extent : (ws : List ℕ) (base size : ℕ) → otherExtent ws base size ≡ false → record { base = base; length = size } ≡ extentHeld ws
