@@ -1,11 +1,11 @@
-//! Every word of an answer, folded into a checksum. Each word is multiplied by a number of its place, so words that are 0 on one side need
-//! not be there on the other, and a word in a wrong place changes the sum.
+//! What an answer says, folded into a checksum: the values that its kind has, and the pieces that are counted. Each word is multiplied by a
+//! number of its place, so a word in a wrong place changes the sum. Each side reads what its answer has and nothing else.
 //!
 //! The folds of the archive's answers are always inlined: left to the compiler, that hangs on the size of the loops around them. The one of
 //! ordinary answers is left to it, and is the quicker for it.
 
 use crate::ordinary;
-use llobatelh::{header, Answer, Outcome, ANSWER_WORDS};
+use llobatelh::{header, Answer, Outcome, ANSWER_WORDS, PIECES_MOST};
 
 const COUNT: usize = header::ANSWER_COUNT as usize;
 const PIECES: usize = header::ANSWER_PIECES as usize;
@@ -21,10 +21,42 @@ fn sum(words: impl IntoIterator<Item = u64>, from: usize) -> u64 {
     })
 }
 
-/// The words that the archive puts.
+/// The words that the archive puts. Pieces are read by words: two stores of eight bytes that are loaded as one of sixteen make the
+/// processor wait.
 #[inline(always)]
 pub fn words(words: &[u64; ANSWER_WORDS]) -> u64 {
-    sum(*words, 0)
+    let values = match words {
+        [header::TRANSLATE, ste, cd, asid, t0sz, tg0, epd0, ips, ttb0, ..] => sum(
+            [
+                header::TRANSLATE,
+                *ste,
+                *cd,
+                *asid,
+                *t0sz,
+                *tg0,
+                *epd0,
+                *ips,
+                *ttb0,
+            ],
+            0,
+        ),
+        [kind @ (header::BYPASS | header::ABORT | header::UNSERVED), value, ..] => {
+            sum([*kind, *value], 0)
+        }
+        [kind, ..] => sum([*kind], 0),
+    };
+    let count = words[COUNT];
+    let mut pieces = 0u64;
+    for piece in 0..PIECES_MOST {
+        if piece as u64 == count {
+            break;
+        }
+        let at = PIECES + 2 * piece;
+        pieces = pieces.wrapping_add(sum([words[at], words[at + 1]], at));
+    }
+    values
+        .wrapping_add(sum([count], COUNT))
+        .wrapping_add(pieces)
 }
 
 pub fn ordinary(answer: &ordinary::Answer) -> u64 {

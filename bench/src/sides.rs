@@ -38,50 +38,76 @@ fn wrapped_request(request: Request) -> llobatelh::Request {
     }
 }
 
-pub fn lookups(side: Side, inputs: &[Input]) -> u64 {
-    let mut sum = 0u64;
-    for input in inputs {
-        let (base, memory) = (input.base, input.memory.as_slice());
-        let bytes = llobatelh::Memory {
-            base,
-            bytes: memory,
-        };
-        let registers = wrapped_registers(&input.registers);
-        let handed = *calls::registers(&registers);
-        for request in &input.requests {
-            let one = match side {
-                Side::Archive => {
-                    let mut words = [0; ANSWER_WORDS];
-                    let request = wrapped_request(*request);
-                    match calls::lookup(&handed, registers.strtab_base, bytes, request, &mut words)
-                    {
-                        header::DONE => fold::words(&words),
-                        number => said(number),
-                    }
-                }
-                Side::Wrapper => {
-                    match llobatelh::lookup(&registers, bytes, wrapped_request(*request)) {
-                        Ok(answer) => fold::wrapped(&answer),
-                        Err(refusal) => said(refusal.number().into()),
-                    }
-                }
-                Side::Ordinary => {
-                    match ordinary::lookup(&input.registers, base, memory, *request) {
-                        Ok(answer) => fold::ordinary(&answer),
-                        Err(number) => said(number.into()),
-                    }
-                }
-            };
-            sum = sum.rotate_left(1).wrapping_add(one);
-        }
+fn lent(input: &Input) -> llobatelh::Memory<'_> {
+    llobatelh::Memory {
+        base: input.base,
+        bytes: &input.memory,
     }
-    sum
 }
 
-/// What the second program says of the same lookups.
+/// The sum goes on over an input's requests, by what `one` makes of each.
+fn over_requests(sum: u64, input: &Input, mut one: impl FnMut(Request) -> u64) -> u64 {
+    let requests = input.requests.iter();
+    requests.fold(sum, |sum, request| {
+        sum.rotate_left(1).wrapping_add(one(*request))
+    })
+}
+
+/// All lookups of a set on one side. Each side is a function of its own, so that none is compiled with an eye on another's loop.
+pub fn lookups(side: Side, inputs: &[Input]) -> u64 {
+    match side {
+        Side::Archive => archive_lookups(inputs),
+        Side::Wrapper => wrapper_lookups(inputs),
+        Side::Ordinary => ordinary_lookups(inputs),
+    }
+}
+
+/// One array is lent to every call, as a caller in C would.
+#[inline(never)]
+fn archive_lookups(inputs: &[Input]) -> u64 {
+    let mut words = [0; ANSWER_WORDS];
+    inputs.iter().fold(0, |sum, input| {
+        let (registers, memory) = (wrapped_registers(&input.registers), lent(input));
+        let (narrow, strtab_base) = (calls::registers(&registers), registers.strtab_base);
+        over_requests(sum, input, |request| {
+            let request = wrapped_request(request);
+            match calls::lookup(narrow, strtab_base, memory, request, &mut words) {
+                header::DONE => fold::words(&words),
+                number => said(number),
+            }
+        })
+    })
+}
+
+#[inline(never)]
+fn wrapper_lookups(inputs: &[Input]) -> u64 {
+    inputs.iter().fold(0, |sum, input| {
+        let (registers, memory) = (wrapped_registers(&input.registers), lent(input));
+        over_requests(sum, input, |request| {
+            match llobatelh::lookup(&registers, memory, wrapped_request(request)) {
+                Ok(answer) => fold::wrapped(&answer),
+                Err(refusal) => said(refusal.number().into()),
+            }
+        })
+    })
+}
+
+#[inline(never)]
+fn ordinary_lookups(inputs: &[Input]) -> u64 {
+    inputs.iter().fold(0, |sum, input| {
+        over_requests(sum, input, |request| {
+            match ordinary::lookup(&input.registers, input.base, &input.memory, request) {
+                Ok(answer) => fold::ordinary(&answer),
+                Err(number) => said(number.into()),
+            }
+        })
+    })
+}
+
+/// What the second program says of the same lookups, once every word that the archive puts was found to be its word.
 pub fn second_program(inputs: &[Input]) -> u64 {
-    let mut sum = 0u64;
-    for input in inputs {
+    inputs.iter().fold(0, |sum, input| {
+        let (narrow, memory) = (wrapped_registers(&input.registers), lent(input));
         let r = &input.registers;
         let registers = oracle::registers::Registers {
             idr0: r.idr0,
@@ -93,24 +119,33 @@ pub fn second_program(inputs: &[Input]) -> u64 {
             strtab_base: r.strtab_base,
             strtab_base_cfg: r.strtab_base_cfg,
         };
-        let memory = oracle::memory::Memory {
+        let bytes = oracle::memory::Memory {
             base: input.base,
             bytes: &input.memory,
         };
-        for request in &input.requests {
-            let request = oracle::request::Request {
+        over_requests(sum, input, |request| {
+            let asked = oracle::request::Request {
                 stream: oracle::request::StreamId(request.stream),
                 substream: request.substream.map(oracle::request::SubstreamId),
             };
-            let one = match oracle::lookup::lookup(&registers, memory, request) {
-                Ok(answer) => fold::words(&oracle::book_words::encode_answer(&answer)),
-                Err(refusal) => said(refusal.0.into()),
+            let (number, expected) = match oracle::lookup::lookup(&registers, bytes, asked) {
+                Ok(answer) => (header::DONE, oracle::book_words::encode_answer(&answer)),
+                Err(refusal) => (refusal.0.into(), UNTOUCHED),
             };
-            sum = sum.rotate_left(1).wrapping_add(one);
-        }
-    }
-    sum
+            let (request, mut words) = (wrapped_request(request), UNTOUCHED);
+            let archive = calls::registers(&narrow);
+            let says = calls::lookup(archive, narrow.strtab_base, memory, request, &mut words);
+            assert_eq!((says, words), (number, expected), "every word of an answer");
+            match number {
+                header::DONE => fold::words(&words),
+                _ => said(number),
+            }
+        })
+    })
 }
+
+/// What an array holds before a call that has to write all of it, or none.
+const UNTOUCHED: [u64; ANSWER_WORDS] = [u64::MAX; ANSWER_WORDS];
 
 /// A book on each side, for the same registers and memory.
 #[derive(Clone)]
@@ -134,38 +169,52 @@ impl Books {
 
     /// Asks for every request of the input, on one side.
     pub fn asks(&mut self, side: Side, input: &Input) -> u64 {
-        let (base, memory) = (input.base, input.memory.as_slice());
-        let bytes = llobatelh::Memory {
-            base,
-            bytes: memory,
-        };
-        let mut sum = 0u64;
-        for request in &input.requests {
-            let one = match side {
-                Side::Archive => {
-                    let mut words = [0; ANSWER_WORDS];
-                    let request = wrapped_request(*request);
-                    let kept = calls::ask(&mut self.words, bytes, request, &mut words);
-                    fold::words(&words).wrapping_add(said(kept))
-                }
-                Side::Wrapper => match self.wrapped.ask(bytes, wrapped_request(*request)) {
-                    Ok((kept, answer)) => {
-                        fold::wrapped(&answer).wrapping_add(said(kept.number().into()))
-                    }
-                    Err(refusal) => said(refusal.number().into()),
-                },
-                Side::Ordinary => match self.ordinary.ask(base, memory, *request) {
-                    Ok((kept, answer)) => fold::ordinary(&answer).wrapping_add(said(match kept {
-                        Kept::Before => header::KEPT_BEFORE,
-                        Kept::Newly => header::NEWLY_KEPT,
-                        Kept::Not => header::NOT_KEPT,
-                    })),
-                    Err(number) => said(number.into()),
-                },
-            };
-            sum = sum.rotate_left(1).wrapping_add(one);
+        match side {
+            Side::Archive => self.archive_asks(input),
+            Side::Wrapper => self.wrapper_asks(input),
+            Side::Ordinary => self.ordinary_asks(input),
         }
-        sum
+    }
+
+    #[inline(never)]
+    fn archive_asks(&mut self, input: &Input) -> u64 {
+        let (memory, mut words) = (lent(input), [0; ANSWER_WORDS]);
+        over_requests(0, input, |request| {
+            let kept = calls::ask(
+                &mut self.words,
+                memory,
+                wrapped_request(request),
+                &mut words,
+            );
+            fold::words(&words).wrapping_add(said(kept))
+        })
+    }
+
+    #[inline(never)]
+    fn wrapper_asks(&mut self, input: &Input) -> u64 {
+        let memory = lent(input);
+        over_requests(0, input, |request| {
+            match self.wrapped.ask(memory, wrapped_request(request)) {
+                Ok((kept, answer)) => {
+                    fold::wrapped(&answer).wrapping_add(said(kept.number().into()))
+                }
+                Err(refusal) => said(refusal.number().into()),
+            }
+        })
+    }
+
+    #[inline(never)]
+    fn ordinary_asks(&mut self, input: &Input) -> u64 {
+        over_requests(0, input, |request| {
+            match self.ordinary.ask(input.base, &input.memory, request) {
+                Ok((kept, answer)) => fold::ordinary(&answer).wrapping_add(said(match kept {
+                    Kept::Before => header::KEPT_BEFORE,
+                    Kept::Newly => header::NEWLY_KEPT,
+                    Kept::Not => header::NOT_KEPT,
+                })),
+                Err(number) => said(number.into()),
+            }
+        })
     }
 
     /// The same from a book that is opened before each pass of 64: the opened one is copied.
