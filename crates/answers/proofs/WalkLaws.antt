@@ -14,7 +14,7 @@ use mathlib.Core.List.{List, [], _∷_, _++_, append-assoc, append-nil}
 use lib.ListN.{length, replicate, length-append}
 use Rattle.memory_image.specs.Extent.{Extent, extentOf, endOf, fetched, fetchRule}
 use Rattle.memory_image.specs.Words.{bytes, wordOf}
-use Rattle.memory_image.specs.Rule.{Rule, done, fetch, Ran, piece, wordsAt, run, andThen}
+use Rattle.memory_image.specs.Rule.{Rule, done, fetch, Ran, descriptor, wordsAt, run, andThen}
 use Rattle.memory_image.specs.declared.Piece.{Piece}
 use Rattle.memory_image.specs.declared.Fetched.{Fetched}
 use Rattle.memory_image.specs.declared.Fetched.the-variants.{At, Outside}
@@ -36,7 +36,7 @@ module _ {A : Type 0} (e : Extent) (limit : ℕ) (f : ℕ → ℕ) where
     in-had :
         fetched e limit address (8 * n) ≡ true
         → runIn e limit f (fetch address n fault rest) ws
-        ≡ runIn e limit f (rest (wordsAt f (address - e .base) n)) (pushPiece ws (piece address n))
+        ≡ runIn e limit f (rest (wordsAt f (address - e .base) n)) (pushPiece ws (descriptor address n))
     unfolding runIn
     in-had test = rw test
 
@@ -57,11 +57,11 @@ module _ {A B : Type 0} (e : Extent) (limit : ℕ) (f : ℕ → ℕ) (next : A �
   in-then (done x) ws = rw (in-done e limit f x ws)
   in-then (fetch address n fault rest) ws =
       go (fetched e limit address (8 * n)) refl
-      (in-then (rest (wordsAt f (address - e .base) n)) (pushPiece ws (piece address n))) (in-then fault ws)
+      (in-then (rest (wordsAt f (address - e .base) n)) (pushPiece ws (descriptor address n))) (in-then fault ws)
     where
       go :
           (b : Bool) → fetched e limit address (8 * n) ≡ b
-          → Chained (rest (wordsAt f (address - e .base) n)) (pushPiece ws (piece address n)) → Chained fault ws
+          → Chained (rest (wordsAt f (address - e .base) n)) (pushPiece ws (descriptor address n)) → Chained fault ws
           → Chained (fetch address n fault rest) ws
       go true test on out =
           rw (
@@ -90,18 +90,18 @@ module _ {A : Type 0} (e : Extent) (limit : ℕ) (f : ℕ → ℕ) where
   in-run (done x) l room = rw (in-done e limit f x, run-done e limit f x, append-nil)
   in-run (fetch address n fault rest) l room =
       go (fetched e limit address (8 * n)) refl
-      (in-run (rest (wordsAt f (address - e .base) n)) (l ++ (piece address n ∷ []))) (in-run fault l) room
+      (in-run (rest (wordsAt f (address - e .base) n)) (l ++ (descriptor address n ∷ []))) (in-run fault l) room
     where
       go :
           (b : Bool) → fetched e limit address (8 * n) ≡ b
-          → Grows (rest (wordsAt f (address - e .base) n)) (l ++ (piece address n ∷ [])) → Grows fault l
+          → Grows (rest (wordsAt f (address - e .base) n)) (l ++ (descriptor address n ∷ [])) → Grows fault l
           → Grows (fetch address n fault rest) l
       go true test on out room =
           let room′ = rw (run-had e limit f address n fault rest test) at room in
           rw (
             in-had e limit f address n fault rest (onlyList (piecesOf l)) test,
             run-had e limit f address n fault rest test,
-            only-more l (piece address n) (omega arith),
+            only-more l (descriptor address n) (omega arith),
           ) (on (rw length-append (omega arith)) ∙ rw append-assoc)
       go false test on out room =
           rw (in-fault e limit f address n fault rest (onlyList (piecesOf l)) test, run-fault e limit f address n fault rest test)

@@ -8,7 +8,7 @@ use mathlib.Core.List.{List}
 use Rattle.bit_fields.specs.Choice.{if_then_else_}
 use Rattle.memory_image.specs.Extent.{Extent, extentOf, endOf, fetched}
 use Rattle.memory_image.specs.Words.{bytes}
-use Rattle.memory_image.specs.Rule.{Rule, done, fetch, piece, wordsAt}
+use Rattle.memory_image.specs.Rule.{Rule, done, fetch, descriptor, wordsAt}
 use Rattle.answers.specs.Pieces.{pushPiece}
 
 pub record RanIn (A : Type 0) : Type 0 where
@@ -19,7 +19,7 @@ unfoldable pub runIn : {A : Type 0} → Extent → ℕ → (ℕ → ℕ) → Rul
 runIn e limit f (done x) ws = record { answer = x; words = ws }
 runIn e limit f (fetch address n fault rest) ws =
     if fetched e limit address (8 * n)
-    then runIn e limit f (rest (wordsAt f (address - e .base) n)) (pushPiece ws (piece address n))
+    then runIn e limit f (rest (wordsAt f (address - e .base) n)) (pushPiece ws (descriptor address n))
     else runIn e limit f fault ws
 
 -- on all of a lent memory

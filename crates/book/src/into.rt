@@ -40,7 +40,7 @@ pub fn ask_into(
     }
     let slots = book[0] as usize;
     let key = request.pack() + 1;
-    let slot = book_words::find(&*book, key, slots);
+    let slot = book_words::first_from(&*book, key, slots);
     if slot < slots {
         let kept = book_words::block(&*book, slot);
         answer_words::give(&kept, words);
@@ -97,7 +97,7 @@ fn keep(book: &mut [u64; BOOK_WORDS], key: u64, slots: usize, answer: &[u64; ANS
     requires { ⌜ slots ≤ slotsMost ⌝ }
     ensures { λ r. ⌜ KeepsWords (now (book .entry)) key slots (now (answer .entry)) r (now (book .exit)) ⌝ }
 {
-    let empty = book_words::find(&*book, 0, slots);
+    let empty = book_words::first_from(&*book, 0, slots);
     if empty < slots {
         book_words::keep_at(book, empty, key, answer);
         return NEWLY_KEPT;

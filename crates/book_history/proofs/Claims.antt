@@ -9,7 +9,7 @@ use borrow.Author.Tests.{eq-eqb, lt-ltb, le-ltb, ltb-true}
 use lib.Dec.{ltb}
 use lib.ListN.{length}
 use Rattle.bit_fields.specs.Choice.{if_then_else_}
-use Rattle.bit_fields.proofs.ChoiceLaws.{either}
+use Rattle.bit_fields.proofs.ChoiceLaws.{alike, either}
 use Rattle.ids.specs.Ids.{refusal3}
 use Rattle.ids.specs.Packing.{packed, unpacked}
 use Rattle.ids.specs.declared.Request.{Request}
@@ -27,8 +27,9 @@ use Rattle.lookup.proofs.Claims.{refused-exactly}
 use Rattle.book_history.specs.Claims.{NeverStale, FreshIn, StillGood, NeverMalformed, StrikesExactly, SharesMeans, LowestEmpty, KeptChangesNothing, FullChangesNothing, RefusedChangesNothing, StartsEmpty, OneOpening, OneAsk, OneNotice, lookedIn, askedAfter}
 use Rattle.book_words.specs.Layout.{slotsMost, bookWords, slotsOf, baseOf, keyAt, blockAt, otherExtent}
 use Rattle.book_words.specs.Malformed.{refusal7}
-use Rattle.book.specs.Book.{slotOf, emptySlot, newly, nowHolding, refusedWith, askResult, askBook, newLookup, shares}
+use Rattle.book.specs.Book.{slotOf, emptySlot, newly, nowHolding, askResult, askBook, newLookup, shares}
 use Rattle.book_history.specs.History.{State, Step, run, Began}
+use Rattle.book.specs.declared.Asked.{Asked}
 use Rattle.book.specs.declared.Reply.the-variants.{Refused, KeptBefore}
 use Rattle.book.proofs.StruckLaws.{struck-else, struck-key}
 use Rattle.book_words.proofs.WellLaws.{well-from, first-key, first-low}
@@ -166,35 +167,21 @@ full-changes-nothing ws base size request new full =
 
 pub refused-changes-nothing : RefusedChangesNothing
 unfolding askBook askResult
-refused-changes-nothing ws base size request new n is =
-    go (refusal7 ws) (otherExtent ws base size) (refusal3 request) (ltb (slotOf ws request) (slotsOf ws))
-    (ltb (emptySlot ws) (slotsOf ws)) (new .answer) is
+refused-changes-nothing ws base size request new n =
+    alike Leaves (refusal7 ws) (λ is. refl)
+    (alike Leaves (otherExtent ws base size) (λ is. refl)
+    (alike Leaves (refusal3 request) (λ is. refl)
+    (alike Leaves (ltb (slotOf ws request) (slotsOf ws)) (λ is. refl) (anew (ltb (emptySlot ws) (slotsOf ws)) (new .answer)))))
   where
-    block : List ℕ
-    block = blockAt ws (slotOf ws request)
+    Leaves : Asked → List ℕ → Type 0
+    Leaves asked after = asked .reply ≡ Refused n → after ≡ ws
 
-    go :
-        (a b c d e : Bool) (answer : Answer)
-        → (if a then refusedWith 7
-        else if b then refusedWith 6
-        else if c then refusedWith 3
-        else if d then record { reply = KeptBefore (outcomeOf block); list = listOf block }
-        else newly e answer (new .list)) .reply
-        ≡ Refused n
-        → (if a then ws
-        else if b then ws
-        else if c then ws
-        else if d then ws
-        else nowHolding e ws (emptySlot ws) (packed request + 1) answer (new .list))
-        ≡ ws
-    go true b c d e answer is = refl
-    go false true c d e answer is = refl
-    go false false true d e answer is = refl
-    go false false false true e answer is = refl
-    go false false false false true (looked.Refused m) is = refl
-    go false false false false false (looked.Refused m) is = refl
-    go false false false false true (looked.Is outcome) is = let z : _≡_ {A = ℕ} 0 1 = cc in absurd (omega arith)
-    go false false false false false (looked.Is outcome) is = refl
+    anew :
+        (room : Bool) (answer : Answer)
+        → Leaves (newly room answer (new .list)) (nowHolding room ws (emptySlot ws) (packed request + 1) answer (new .list))
+    anew room (looked.Refused m) is = refl
+    anew true (looked.Is outcome) is = let z : _≡_ {A = ℕ} 0 1 = cc in absurd (omega arith)
+    anew false (looked.Is outcome) is = refl
 
 pub starts-empty : StartsEmpty
 starts-empty r e slots i small = opened-empty r e slots i small

@@ -7,13 +7,14 @@ use Prim.Native.Nat.{ℕ, _+_, _-_, _^_, _≤_, _<_, min, max}
 use native.Mathlib.Omega.{arith}
 use native.Mathlib.Nat.{zero-add}
 use mathlib.Core.Path.{_≡_, refl, sym, ap, _∙_}
-use mathlib.Core.Bool.{Bool, true, false, not, _&&_, _||_}
+use mathlib.Core.Bool.{Bool, true, false, _&&_, _||_}
 use mathlib.Core.List.{List, [], _∷_}
 use borrow.Author.Tests.{ltb-true, ltb-false, eqb-true, eqb-false, leb-true}
 use lib.Dec.{eqb, leb, ltb}
 use lib.ListN.{length, getD}
-use Rattle.number_laws.proofs.Tests.{not-both}
+use Rattle.number_laws.proofs.Tests.{neither}
 use Rattle.bit_fields.specs.Choice.{if_then_else_}
+use Rattle.bit_fields.proofs.ChoiceLaws.{either, by-test}
 use Rattle.placed.proofs.FromLaws.{values-length, values-at}
 use Rattle.ids.specs.Ids.{refusal3}
 use Rattle.ids.specs.Packing.{packed, unpacked}
@@ -38,7 +39,7 @@ use Rattle.lookup.specs.declared.Looked.{Looked}
 use Rattle.lookup.specs.declared.Answer.{Answer}
 use Rattle.lookup.specs.declared.Answer.the-variants as looked
 use Rattle.lookup.proofs.Claims.{depends-on-list, listed-lies, answers-proper}
-use Rattle.book_words.specs.Layout.{slotsMost, bookWords, baseAt, lengthAt, keysFrom, slotsOf, registersOf, baseOf, lengthOf, keyAt, blockAt, keptAt, openedWith}
+use Rattle.book_words.specs.Layout.{slotsMost, bookWords, baseAt, lengthAt, keysFrom, slotsOf, registersOf, baseOf, lengthOf, keyAt, blockAt, keptAt, openedWith, otherExtent}
 use Rattle.book.specs.Book.{shares, struckFrom, slotOf, emptySlot, nowHolding, newLookup, askBook, openSays, noticeSays, ifDone}
 use Rattle.book_words.specs.Malformed.{refusal7}
 use Rattle.book_history.specs.History.{State, Step, edit, notice, ask, report, edited, noticedAt, stillDirty, step, run, Clean, Began}
@@ -47,6 +48,7 @@ use Rattle.book.specs.declared.Said.the-variants as said
 use Rattle.book_words.proofs.KeptLaws.{kept-length, kept-before, kept-key, kept-key-other, kept-block, kept-block-other}
 use Rattle.book.proofs.NoticeLaws.{apart-from, untouched}
 use Rattle.book.proofs.StruckLaws.{struck-length, struck-else, struck-block, struck-left, struck-well}
+use Rattle.book_words.proofs.WordsLaws.{same-extent}
 use Rattle.book_words.proofs.WellLaws.{held-to, first-low, Well}
 use Rattle.book_words.proofs.KeepsLaws.{registers-same, kept-well, open-well, opened-length, opened-registers, opened-empty}
 
@@ -66,10 +68,6 @@ pub record Sound (r : Registers) (base : ℕ) (s : State) : Type 0 where
       → lookedUp r base (s .memory) request ≡ heldIn (blockAt (s .words) i)
 
 -- an edit
-either-not : (x y : Bool) → x || y ≡ false → (x ≡ false) × (y ≡ false)
-either-not true y is = not-both is
-either-not false y is = (refl, is)
-
 module _ (r : Registers) (base : ℕ) (s : State) (at : ℕ → Bool) (other : List ℕ) where
   -- the bytes of a piece that lies in the memory and was not edited
   kept-byte :
@@ -89,7 +87,7 @@ module _ (r : Registers) (base : ℕ) (s : State) (at : ℕ → Bool) (other : L
         base-is = h .base-is;
         length-is = h .length-is ∙ sym (values-length _ (length (s .memory)) 0);
         fresh = λ i small held clean request is.
-            let was = h .fresh i small held (λ j few a from to. either-not (at a) (s .dirty a) (clean j few a from to) .1) request is in
+            let was = h .fresh i small held (λ j few a from to. neither (at a) (s .dirty a) (clean j few a from to) .1) request is in
             depends-on-list r base (s .memory) (edited base at other (s .memory)) request (values-length _ (length (s .memory)) 0)
             (rw was (same request i was clean)) ∙ was;
       }
@@ -102,7 +100,7 @@ module _ (r : Registers) (base : ℕ) (s : State) (at : ℕ → Bool) (other : L
           let lies = rw was at (listed-lies r base (s .memory) request) in
           let begins = lies j few .from in
           let ends = lies j few .inside in
-          kept-byte a (omega arith) (omega arith) (either-not (at a) (s .dirty a) (clean j few a from to) .0)
+          kept-byte a (omega arith) (omega arith) (neither (at a) (s .dirty a) (clean j few a from to) .0)
 
 -- a notice
 module _ (start size : ℕ) where
@@ -269,36 +267,18 @@ module _ (r : Registers) (base : ℕ) (s : State) (h : Sound r base s) (request 
       })
   unfolding askBook
   ask-sound from =
-      go (refusal7 (s .words)) (eqb from (baseOf (s .words))) refl (eqb (length (s .memory)) (lengthOf (s .words))) (refusal3 request) refl
-      (ltb (slotOf (s .words) request) (slotsOf (s .words))) refl
+      either After (refusal7 (s .words)) h
+      (by-test After (otherExtent (s .words) from (length (s .memory))) (λ other. h)
+      (λ same. by-test After (refusal3 request) (λ wide. h)
+      (λ third. by-test After (ltb (slotOf (s .words) request) (slotsOf (s .words))) (λ kept. h)
+      (λ past.
+      let here : from ≡ base = ap (λ (e : Extent). e .base) (same-extent (s .words) from (length (s .memory)) same) ∙ h .base-is in
+      let new = newLookup (s .words) from (s .memory) request in
+      anew (ltb-false _ _ past) third (ltb (emptySlot (s .words)) (slotsOf (s .words))) refl (new .answer) (new .list)
+      (rw (← h .registers, ← here))))))
     where
-      new : Looked
-      new = newLookup (s .words) from (s .memory) request
-
-      go :
-          (a b : Bool) → eqb from (baseOf (s .words)) ≡ b → (c d : Bool) → refusal3 request ≡ d → (e : Bool)
-          → ltb (slotOf (s .words) request) (slotsOf (s .words)) ≡ e
-          → Sound r base
-          (record {
-            memory = s .memory;
-            words =
-                if a then s .words
-                else if not (b && c) then s .words
-                else if d then s .words
-                else if e then s .words
-                else nowHolding (ltb (emptySlot (s .words)) (slotsOf (s .words))) (s .words) (emptySlot (s .words)) (packed request + 1)
-                (new .answer) (new .list);
-            dirty = s .dirty;
-          })
-      go true b b′ c d d′ e e′ = h
-      go false false b′ c d d′ e e′ = h
-      go false true b′ false d d′ e e′ = h
-      go false true b′ true true d′ e e′ = h
-      go false true b′ true false d′ true e′ = h
-      go false true b′ true false d′ false e′ =
-          let here : from ≡ base = eqb-true from (baseOf (s .words)) b′ ∙ h .base-is in
-          anew (ltb-false _ _ e′) d′ (ltb (emptySlot (s .words)) (slotsOf (s .words))) refl (new .answer) (new .list)
-          (rw (← h .registers, ← here))
+      After : List ℕ → Type 0
+      After words = Sound r base (record { memory = s .memory; words = words; dirty = s .dirty })
 
 -- any step, and any history
 notice-sound : (r : Registers) (base : ℕ) (s : State) (start size : ℕ) → Sound r base s → Sound r base (step base s (notice start size))
@@ -330,20 +310,19 @@ accepted-parts :
     (r : Registers) (e : Extent) (slots : ℕ) → openSays r e slots ≡ said.Done
     → (refusal1 r ≡ false) × (refusal2 e ≡ false) × (slots ≡ 0 → ⊥) × (slots ≤ slotsMost)
 unfolding openSays
-accepted-parts r e slots is = go (refusal1 r) refl (refusal2 e) refl (eqb slots 0) refl (ltb slotsMost slots) refl is
+accepted-parts r e slots =
+    by-test Parts (refusal1 r) (λ first. refused)
+    (λ first. by-test Parts (refusal2 e) (λ second. refused)
+    (λ second. by-test Parts (eqb slots 0 || ltb slotsMost slots) (λ bad. refused)
+    (λ good is.
+    let some = neither _ _ good in
+    (first, second, eqb-false slots 0 (some .0), ltb-false slotsMost slots (some .1)))))
   where
+    Parts : Said → Type 0
+    Parts says = says ≡ said.Done → (refusal1 r ≡ false) × (refusal2 e ≡ false) × (slots ≡ 0 → ⊥) × (slots ≤ slotsMost)
+
     refused : {A : Type 0} {n : ℕ} → said.Refused n ≡ said.Done → A
     refused e = let z : _≡_ {A = ℕ} 0 1 = cc in absurd (omega arith)
-
-    go :
-        (a : Bool) → refusal1 r ≡ a → (b : Bool) → refusal2 e ≡ b → (c : Bool) → eqb slots 0 ≡ c → (d : Bool) → ltb slotsMost slots ≡ d
-        → (if a then said.Refused 1 else if b then said.Refused 2 else if c || d then said.Refused 4 else said.Done) ≡ said.Done
-        → (refusal1 r ≡ false) × (refusal2 e ≡ false) × (slots ≡ 0 → ⊥) × (slots ≤ slotsMost)
-    go true a b b′ c c′ d d′ is = refused is
-    go false a true b′ c c′ d d′ is = refused is
-    go false a false b′ true c′ d d′ is = refused is
-    go false a false b′ false c′ true d′ is = refused is
-    go false a false b′ false c′ false d′ is = (a, b′, eqb-false slots 0 c′, ltb-false slotsMost slots d′)
 
 pub open-sound : (r : Registers) (base : ℕ) (s : State) → Began r base s → Sound r base s
 unfolding openedWith

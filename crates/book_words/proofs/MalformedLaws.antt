@@ -5,13 +5,13 @@
 -- Assumes: nothing.
 use Prim.Native.Nat.{ℕ, _-_, _≤_, _<_}
 use native.Mathlib.Omega.{arith}
-use mathlib.Core.Path.{_≡_, refl, sym, _∙_}
+use mathlib.Core.Path.{_≡_, sym, _∙_}
 use mathlib.Core.Bool.{Bool, true, false, not}
 use mathlib.Core.List.{List}
 use borrow.Author.Tests.{eq-eqb, ne-eqb, lt-ltb, le-ltb, le-leb, lt-leb, ltb-false, not-true, not-false}
 use lib.Dec.{eqb, ltb}
 use Rattle.number_laws.proofs.Tests.{not-both}
-use Rattle.bit_fields.specs.Choice.{if_then_else_}
+use Rattle.bit_fields.proofs.ChoiceLaws.{either, by-test}
 use Rattle.ids.specs.Packing.{unpacked}
 use Rattle.ids.specs.declared.Request.{Request}
 use Rattle.ids.specs.declared.Unpacked.{Unpacked}
@@ -83,20 +83,12 @@ module _ (ws : List ℕ) where
 
 few-at-most : (ws : List ℕ) → refusal7 ws ≡ false → slotsOf ws ≤ slotsMost
 unfolding refusal7
-few-at-most ws is = go (eqb (slotsOf ws) 0) (ltb slotsMost (slotsOf ws)) refl is
+few-at-most ws =
+    either Few (eqb (slotsOf ws) 0) not-both
+    (by-test Few (ltb slotsMost (slotsOf ws)) (λ many. not-both) (λ few rest. ltb-false slotsMost (slotsOf ws) few))
   where
-    rest : Bool
-    rest =
-        if not (registersFit ws) then true
-        else if refusal1 (registersOf ws) then true
-        else if refusal2 (extentHeld ws) then true
-        else not (wellFrom ws slotsMost 0)
-
-    go :
-        (a b : Bool) → ltb slotsMost (slotsOf ws) ≡ b → (if a then true else if b then true else rest) ≡ false → slotsOf ws ≤ slotsMost
-    go true b test is = not-both is
-    go false true test is = not-both is
-    go false false test is = ltb-false slotsMost (slotsOf ws) test
+    Few : Bool → Type 0
+    Few refused = refused ≡ false → slotsOf ws ≤ slotsMost
 
 pub few-slots : (ws : List ℕ) {bad : Bool} → bad ≡ refusal7 ws → bad ≡ false → slotsOf ws ≤ slotsMost
 few-slots ws is good = few-at-most ws (sym is ∙ good)

@@ -1,7 +1,7 @@
 -- One step of each scan that is defined by what is left, under the test that the code makes.
 --     first-end, first-hit, first-miss     the search for a key
 --     first-none, first-found, first-more  its loop
---     copy-end, copy-step              the words of a block
+--     copy-end, copy-more                  the loop that copies a block
 -- Assumes: nothing.
 use Prim.Native.Nat.{ℕ, _+_, _-_, _≤_, _<_}
 use mathlib.Core.Path.{_≡_, sym, _∙_}
@@ -36,11 +36,12 @@ module _ (ws : List ℕ) (x n : ℕ) {i : ℕ} (left : firstFrom ws x n 0 ≡ fi
   pub first-more : i < n → (keyAt ws i ≡ x → ⊥) → firstFrom ws x n 0 ≡ firstFrom ws x (n - (i + 1)) (i + 1)
   first-more more is = left ∙ first-miss ws x n i more is
 
-module _ (ws vs : List ℕ) (b n j : ℕ) where
-  pub copy-end : n ≤ j → copied ws b vs (n - j) j ≡ ws
+-- the loop that copies: j words copied
+module _ (ws vs : List ℕ) (b n : ℕ) {j : ℕ} {whole : List ℕ} (left : whole ≡ copied ws b vs (n - j) j) where
+  pub copy-end : n ≤ j → ws ≡ whole
   unfolding copied
-  copy-end past = rw (left-none n j past)
+  copy-end past = sym (left ∙ rw (left-none n j past))
 
-  pub copy-step : j < n → copied ws b vs (n - j) j ≡ copied (set ws (b + j) (getD vs j 0)) b vs (n - (j + 1)) (j + 1)
+  pub copy-more : j < n → whole ≡ copied (set ws (b + j) (getD vs j 0)) b vs (n - (j + 1)) (j + 1)
   unfolding copied
-  copy-step more = rw (left-one n j more)
+  copy-more more = left ∙ rw (left-one n j more)

@@ -8,10 +8,11 @@ use native.Mathlib.Omega.{arith}
 use mathlib.Core.Path.{_≡_, refl, sym}
 use mathlib.Core.Bool.{Bool, true, false, not}
 use mathlib.Core.List.{List}
-use borrow.Author.Tests.{eq-eqb, ne-eqb, le-ltb, lt-leb, eqb-true, eqb-false, ltb-true, ltb-false, leb-false}
+use borrow.Author.Tests.{eq-eqb, ne-eqb, le-ltb, lt-leb, eqb-true, eqb-false, ltb-true, ltb-false, leb-false, not-false}
 use lib.Dec.{eqb, leb, ltb}
 use Rattle.number_laws.proofs.Tests.{not-both}
 use Rattle.bit_fields.specs.Choice.{if_then_else_}
+use Rattle.bit_fields.proofs.ChoiceLaws.{by-test}
 use Rattle.placed.proofs.FromLaws.{all-each, all-every}
 use Rattle.ids.specs.Packing.{unpacked}
 use Rattle.ids.specs.declared.Request.{Request}
@@ -21,7 +22,7 @@ use Rattle.registers.specs.Sizes.{refusal1}
 use Rattle.memory_image.specs.Extent.{refusal2}
 use Rattle.answer_words.specs.AnswerWords.{stands}
 use Rattle.book_words.specs.Layout.{slotsMost, slotsOf, registersOf, extentHeld, keyAt, blockAt}
-use Rattle.book_words.specs.Malformed.{firstFrom, someRequest, slotWell, wellFrom, registersFit, refusal7}
+use Rattle.book_words.specs.Malformed.{firstFrom, someRequest, slotWell, registersFit, refusal7}
 
 -- the search for a key: where it stops the key stands, and it stops at the first
 pub first-key : (m : ℕ) (ws : List ℕ) (x i : ℕ) → firstFrom ws x m i < i + m → keyAt ws (firstFrom ws x m i) ≡ x
@@ -71,50 +72,41 @@ pub record Held (ws : List ℕ) (i : ℕ) : Type 0 where
   pub alone : (j : ℕ) → j < i → keyAt ws j ≡ keyAt ws i → ⊥
   pub answer : stands (blockAt ws i) ≡ true
 
+has-request : {A : Type 0} (u : Unpacked) → someRequest u ≡ true → ((request : Request) → u ≡ Is request → A) → A
+has-request Nothing is next = not-both (sym is)
+has-request (Is request) is next = next request refl
+
 module _ (ws : List ℕ) (i : ℕ) (small : i < slotsMost) where
   pub held-to : slotWell ws i ≡ true → (keyAt ws i ≡ 0 → ⊥) → Held ws i
   unfolding slotWell
   held-to well held =
-      go (eqb (keyAt ws i) 0) refl (leb (slotsOf ws) i) refl (unpacked (keyAt ws i - 1)) refl
-      (eqb (firstFrom ws (keyAt ws i) slotsMost 0) i) refl well
+      by-test Has (eqb (keyAt ws i) 0) (λ none is. absurd (held (eqb-true (keyAt ws i) 0 none)))
+      (λ key. by-test Has (leb (slotsOf ws) i) (λ past is. not-both (sym is))
+      (λ inside. by-test Has (not (someRequest (unpacked (keyAt ws i - 1)))) (λ none is. not-both (sym is))
+      (λ some. by-test Has (not (eqb (firstFrom ws (keyAt ws i) slotsMost 0) i)) (λ again is. not-both (sym is))
+      (λ once is. has-request (unpacked (keyAt ws i - 1)) (not-false _ some)
+      (λ request is-request.
+      let first : firstFrom ws (keyAt ws i) slotsMost 0 ≡ i = eqb-true _ _ (not-false _ once) in
+      record {
+        inside = leb-false (slotsOf ws) i inside;
+        request = request;
+        is-request = is-request;
+        alone = λ j less same.
+            let low : firstFrom ws (keyAt ws i) slotsMost 0 ≤ j = first-low slotsMost ws (keyAt ws i) 0 j same (omega arith) (omega arith) in
+            omega arith;
+        answer = is;
+      }))))) well
     where
-      go :
-          (a : Bool) → eqb (keyAt ws i) 0 ≡ a → (b : Bool) → leb (slotsOf ws) i ≡ b → (u : Unpacked) → unpacked (keyAt ws i - 1) ≡ u
-          → (d : Bool) → eqb (firstFrom ws (keyAt ws i) slotsMost 0) i ≡ d
-          → (if a then true else if b then false else if not (someRequest u) then false else if not d then false else stands (blockAt ws i)) ≡ true
-          → Held ws i
-      go true e b f u g d h is = absurd (held (eqb-true (keyAt ws i) 0 e))
-      go false e true f u g d h is = not-both (sym is)
-      go false e false f Nothing g d h is = not-both (sym is)
-      go false e false f (Is request) g false h is = not-both (sym is)
-      go false e false f (Is request) g true h is =
-          let first : firstFrom ws (keyAt ws i) slotsMost 0 ≡ i = eqb-true _ _ h in
-          record {
-            inside = leb-false (slotsOf ws) i f;
-            request = request;
-            is-request = g;
-            alone = λ j less same.
-                let low : firstFrom ws (keyAt ws i) slotsMost 0 ≤ j = first-low slotsMost ws (keyAt ws i) 0 j same (omega arith) (omega arith) in
-                omega arith;
-            answer = is;
-          }
+      Has : Bool → Type 0
+      Has test = test ≡ true → Held ws i
 
   pub held-from : ((keyAt ws i ≡ 0 → ⊥) → Held ws i) → slotWell ws i ≡ true
   unfolding slotWell
-  held-from has = go (eqb (keyAt ws i) 0) refl
-    where
-      go :
-          (a : Bool) → eqb (keyAt ws i) 0 ≡ a
-          → (if a then true
-          else if leb (slotsOf ws) i then false
-          else if not (someRequest (unpacked (keyAt ws i - 1))) then false
-          else if not (eqb (firstFrom ws (keyAt ws i) slotsMost 0) i) then false
-          else stands (blockAt ws i))
-          ≡ true
-      go true e = refl
-      go false e =
-          let h = has (eqb-false (keyAt ws i) 0 e) in
-          simp (lt-leb _ _ (h .inside), h .is-request, eq-eqb _ _ (first-is ws (keyAt ws i) i small refl (h .alone)), h .answer)
+  held-from has =
+      by-test (λ test. test ≡ true) (eqb (keyAt ws i) 0) (λ empty. refl)
+      (λ key.
+      let h = has (eqb-false (keyAt ws i) 0 key) in
+      simp (lt-leb _ _ (h .inside), h .is-request, eq-eqb _ _ (first-is ws (keyAt ws i) i small refl (h .alone)), h .answer))
 
 pub record Well (ws : List ℕ) : Type 0 where
   pub some : slotsOf ws ≡ 0 → ⊥
@@ -127,30 +119,24 @@ pub record Well (ws : List ℕ) : Type 0 where
 module _ (ws : List ℕ) where
   pub well-to : refusal7 ws ≡ false → Well ws
   unfolding refusal7
-  well-to is =
-      go (eqb (slotsOf ws) 0) refl (ltb slotsMost (slotsOf ws)) refl (registersFit ws) refl (refusal1 (registersOf ws)) refl
-      (refusal2 (extentHeld ws)) refl (wellFrom ws slotsMost 0) refl is
+  well-to =
+      by-test To (eqb (slotsOf ws) 0) (λ none. not-both)
+      (λ some. by-test To (ltb slotsMost (slotsOf ws)) (λ many. not-both)
+      (λ few. by-test To (not (registersFit ws)) (λ wide. not-both)
+      (λ fit. by-test To (refusal1 (registersOf ws)) (λ first. not-both)
+      (λ registers. by-test To (refusal2 (extentHeld ws)) (λ second. not-both)
+      (λ extent good.
+      record {
+        some = eqb-false (slotsOf ws) 0 some;
+        few = ltb-false slotsMost (slotsOf ws) few;
+        fit = not-false _ fit;
+        registers = registers;
+        extent = extent;
+        slots = λ i small. all-each (slotWell ws) slotsMost 0 i (not-false _ good) (omega arith) (omega arith);
+      })))))
     where
-      go :
-          (a : Bool) → eqb (slotsOf ws) 0 ≡ a → (b : Bool) → ltb slotsMost (slotsOf ws) ≡ b → (c : Bool) → registersFit ws ≡ c
-          → (d : Bool) → refusal1 (registersOf ws) ≡ d → (e : Bool) → refusal2 (extentHeld ws) ≡ e → (f : Bool) → wellFrom ws slotsMost 0 ≡ f
-          → (if a then true else if b then true else if not c then true else if d then true else if e then true else not f) ≡ false
-          → Well ws
-      go true a b b′ c c′ d d′ e e′ f f′ is = not-both is
-      go false a true b′ c c′ d d′ e e′ f f′ is = not-both is
-      go false a false b′ false c′ d d′ e e′ f f′ is = not-both is
-      go false a false b′ true c′ true d′ e e′ f f′ is = not-both is
-      go false a false b′ true c′ false d′ true e′ f f′ is = not-both is
-      go false a false b′ true c′ false d′ false e′ false f′ is = not-both is
-      go false a false b′ true c′ false d′ false e′ true f′ is =
-          record {
-            some = eqb-false (slotsOf ws) 0 a;
-            few = ltb-false slotsMost (slotsOf ws) b′;
-            fit = c′;
-            registers = d′;
-            extent = e′;
-            slots = λ i small. all-each (slotWell ws) slotsMost 0 i f′ (omega arith) (omega arith);
-          }
+      To : Bool → Type 0
+      To refused = refused ≡ false → Well ws
 
   pub well-from : Well ws → refusal7 ws ≡ false
   unfolding refusal7

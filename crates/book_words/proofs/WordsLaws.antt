@@ -1,5 +1,5 @@
 -- The header written, and read as the code reads it.
---     other-is          refusal 6's test
+--     other-is, same-extent     refusal 6's test; one that is not given
 --     registers-is      the registers from their words
 --     block-is          a block from its words
 --     Opening, opening-starts, opening-more, opening-ends     every word of a book that is opened
@@ -7,10 +7,12 @@
 use Prim.Native.Nat.{ℕ, _+_, _-_, _*_, _≤_, _<_}
 use native.Mathlib.Omega.{arith}
 use mathlib.Core.Path.{_≡_, refl, _∙_}
-use mathlib.Core.Bool.{Bool, not, _&&_}
+use mathlib.Core.Bool.{Bool, false, not, _&&_}
 use mathlib.Core.List.{List, [], _∷_, _++_}
+use borrow.Author.Tests.{eqb-true, not-false}
 use lib.Dec.{eqb}
 use lib.ListN.{getD, set, length, replicate}
+use Rattle.number_laws.proofs.Tests.{both}
 use Rattle.placed.specs.From.{valuesFrom, from}
 use Rattle.placed.specs.Placed.{Left}
 use Rattle.placed.proofs.PlacedLaws.{placed-zeros}
@@ -31,6 +33,9 @@ use Rattle.book_words.specs.Layout.{
   lengthAt,
   lowWord,
   registersOf,
+  baseOf,
+  lengthOf,
+  extentHeld,
   headerWith,
   openedWith,
   otherExtent,
@@ -41,6 +46,11 @@ module _ (ws : List ℕ) where
       (base size : ℕ) {same : Bool} → same ≡ (eqb base (getD ws baseAt 0) && eqb size (getD ws lengthAt 0))
       → not same ≡ otherExtent ws base size
   other-is base size is = rw is
+
+  pub same-extent : (base size : ℕ) → otherExtent ws base size ≡ false → record { base = base; length = size } ≡ extentHeld ws
+  same-extent base size is =
+      let same = both (eqb base (baseOf ws)) (eqb size (lengthOf ws)) (not-false _ is) in
+      rw (eqb-true base (baseOf ws) (same .0), eqb-true size (lengthOf ws) (same .1))
 
   pub registers-is :
       {words : List ℕ} {j : ℕ} → Filled (λ k. lowWord (getD ws (registersAt + k) 0)) registerWords words j → registerWords ≤ j

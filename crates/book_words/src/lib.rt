@@ -1,5 +1,5 @@
 // The words of a book, read and written; refusal 7 is in well.rt. Start at `fill`.
-// Meets specs/Layout.antt; `find` is `firstFrom` of specs/Malformed.antt.
+// Meets specs/Layout.antt; `first_from` is `firstFrom` of specs/Malformed.antt.
 ghost use mathlib.Core.Path.{_≡_};
 ghost use Prim.Native.Nat.{_+_, _≤_, _<_};
 ghost use Rattle.answers.specs.Layout.{answerWords};
@@ -77,7 +77,7 @@ pub fn is_other(book: &[u64; BOOK_WORDS], base: u64, size: u64) -> bool
 }
 
 // The lowest slot below n with a key, or n.
-pub fn find(book: &[u64; BOOK_WORDS], key: u64, n: usize) -> usize
+pub fn first_from(book: &[u64; BOOK_WORDS], key: u64, n: usize) -> usize
     requires { ⌜ n ≤ slotsMost ⌝ }
     ensures { λ r. ⌜ (r ≡ firstFrom (now (book .entry)) key n 0) × (r ≤ n) ⌝ }
 {

@@ -52,7 +52,7 @@ fn first_with(book: &[u64; BOOK_WORDS], i: usize, key: u64, marks: &[u8; MARKS])
     if marks[place] == 0 {
         return i;
     }
-    super::find(book, key, SLOTS_MOST)
+    super::first_from(book, key, SLOTS_MOST)
 }
 
 // Whether a slot is empty or holds what a slot may.

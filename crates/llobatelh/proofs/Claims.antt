@@ -3,14 +3,13 @@
 use Prim.Native.Nat.{ℕ, _+_, _≤_}
 use native.Mathlib.Omega.{arith}
 use mathlib.Core.Path.{_≡_, refl, sym, _∙_}
-use mathlib.Core.Bool.{Bool, true, false, not, _&&_}
+use mathlib.Core.Bool.{Bool, true, false}
 use mathlib.Core.List.{List}
-use borrow.Author.Tests.{eqb-true, ltb-true}
+use borrow.Author.Tests.{ltb-true}
 use mathlib.Core.Logic.{_⊎_, inl, inr}
-use lib.Dec.{eqb, ltb}
+use lib.Dec.{ltb}
 use lib.ListN.{length}
-use Rattle.bit_fields.specs.Choice.{if_then_else_}
-use Rattle.bit_fields.proofs.ChoiceLaws.{either}
+use Rattle.bit_fields.proofs.ChoiceLaws.{either, by-test}
 use Rattle.ids.specs.Ids.{refusal3}
 use Rattle.ids.specs.declared.Request.{Request}
 use Rattle.registers.specs.Sizes.{refusal1}
@@ -23,8 +22,9 @@ use Rattle.lookup.specs.declared.Answer.the-variants as answer
 use Rattle.lookup.specs.declared.Looked.{Looked}
 use Rattle.lookup.proofs.Claims.{refused-exactly}
 use Rattle.lookup.proofs.PartLaws.{ste-inside}
-use Rattle.answer_words.specs.AnswerWords.{outcomeOf, listOf}
-use Rattle.book_words.specs.Layout.{slotsOf, blockAt, baseOf, lengthOf, extentHeld, otherExtent, registersOf}
+use Rattle.answers.specs.declared.Outcome.{Outcome}
+use Rattle.answers.specs.declared.Pieces.{Pieces}
+use Rattle.book_words.specs.Layout.{slotsOf, otherExtent, registersOf}
 use Rattle.book_words.specs.Malformed.{refusal7}
 use Rattle.book.specs.Book.{
   slotOf,
@@ -34,9 +34,12 @@ use Rattle.book.specs.Book.{
   newLookup,
   refusedWith as refusedAsk,
 }
+use Rattle.book.specs.declared.Asked.{Asked}
 use Rattle.book.specs.declared.Reply.the-variants as reply
+use Rattle.book_words.proofs.WordsLaws.{same-extent}
 use Rattle.book_words.proofs.WellLaws.{well-to}
 use Rattle.report.specs.Report.{reportSays, reportText}
+use Rattle.report.specs.declared.Written.{Written}
 use Rattle.report.specs.declared.Written.the-variants as written
 use Rattle.llobatelh.specs.Calls.{noPart, partSays}
 use Rattle.llobatelh.specs.Claims.{
@@ -81,17 +84,6 @@ lookup-numbers r base memory request n =
     Numbered : Looked → Type 0
     Numbered looked = looked .answer ≡ answer.Refused n → OneOf 1 2 3 n
 
--- the memory that an ask is handed is the book's
-same-extent : (ws : List ℕ) (base size : ℕ) → otherExtent ws base size ≡ false → record { base = base; length = size } ≡ extentHeld ws
-same-extent ws base size is = go (eqb base (baseOf ws)) refl (eqb size (lengthOf ws)) refl is
-  where
-    go :
-        (a : Bool) → eqb base (baseOf ws) ≡ a → (b : Bool) → eqb size (lengthOf ws) ≡ b → not (a && b) ≡ false
-        → record { base = base; length = size } ≡ extentHeld ws
-    go true a true b is = rw (eqb-true base (baseOf ws) a, eqb-true size (lengthOf ws) b)
-    go true a false b is = let z : _≡_ {A = ℕ} 0 1 = cc in absurd (omega arith)
-    go false a b b′ is = let z : _≡_ {A = ℕ} 0 1 = cc in absurd (omega arith)
-
 -- a new lookup of a well-formed book, in its own memory, is answered
 new-answered :
     (ws : List ℕ) (base : ℕ) (memory : List ℕ) (request : Request) → refusal7 ws ≡ false → otherExtent ws base (length memory) ≡ false
@@ -103,53 +95,33 @@ new-answered ws base memory request well same third =
 
 pub ask-numbers : AskNumbers
 unfolding askResult
-ask-numbers ws base memory request n is =
-    go (refusal7 ws) refl (otherExtent ws base (length memory)) refl (refusal3 request) refl (ltb (slotOf ws request) (slotsOf ws))
-    (ltb (emptySlot ws) (slotsOf ws)) is
+ask-numbers ws base memory request n =
+    by-test Numbered (refusal7 ws) (λ first is. let same : 7 ≡ n = cc in inl (sym same))
+    (λ first. by-test Numbered (otherExtent ws base (length memory)) (λ second is. let same : 6 ≡ n = cc in inr (inl (sym same)))
+    (λ second. by-test Numbered (refusal3 request) (λ third is. let same : 3 ≡ n = cc in inr (inr (sym same)))
+    (λ third. either Numbered (ltb (slotOf ws request) (slotsOf ws)) (λ is. let z : _≡_ {A = ℕ} 0 1 = cc in absurd (omega arith))
+    (rw (new-answered ws base memory request first second third) (anew (ltb (emptySlot ws) (slotsOf ws)) _ _)))))
   where
-    new : Looked
-    new = newLookup ws base memory request
+    Numbered : Asked → Type 0
+    Numbered asked = asked .reply ≡ reply.Refused n → OneOf 7 6 3 n
 
-    block : List ℕ
-    block = blockAt ws (slotOf ws request)
-
-    go :
-        (a : Bool) → refusal7 ws ≡ a → (b : Bool) → otherExtent ws base (length memory) ≡ b → (c : Bool) → refusal3 request ≡ c
-        → (d e : Bool)
-        → (if a then refusedAsk 7
-        else if b then refusedAsk 6
-        else if c then refusedAsk 3
-        else if d then record { reply = reply.KeptBefore (outcomeOf block); list = listOf block }
-        else newly e (new .answer) (new .list)) .reply
-        ≡ reply.Refused n
-        → OneOf 7 6 3 n
-    go true a b b′ c c′ d e is = let same : 7 ≡ n = cc in inl (sym same)
-    go false a true b′ c c′ d e is = let same : 6 ≡ n = cc in inr (inl (sym same))
-    go false a false b′ true c′ d e is = let same : 3 ≡ n = cc in inr (inr (sym same))
-    go false a false b′ false c′ true e is = let z : _≡_ {A = ℕ} 0 1 = cc in absurd (omega arith)
-    go false a false b′ false c′ false true is =
-        let known = rw (new-answered ws base memory request a b′ c′) at is in
-        let z : _≡_ {A = ℕ} 0 1 = cc in
-        absurd (omega arith)
-    go false a false b′ false c′ false false is =
-        let known = rw (new-answered ws base memory request a b′ c′) at is in
-        let z : _≡_ {A = ℕ} 0 1 = cc in
-        absurd (omega arith)
+    anew : (room : Bool) (outcome : Outcome) (list : Pieces) → Numbered (newly room (answer.Is outcome) list)
+    anew true outcome list is = let z : _≡_ {A = ℕ} 0 1 = cc in absurd (omega arith)
+    anew false outcome list is = let z : _≡_ {A = ℕ} 0 1 = cc in absurd (omega arith)
 
 pub report-fits : ReportFits
 unfolding reportSays
-report-fits ws room enough is = go (refusal7 ws) refl (ltb room (length (reportText ws))) refl is
+report-fits ws room enough =
+    by-test Fits (refusal7 ws) (λ bad is. let same : _≡_ {A = ℕ} 7 8 = cc in omega arith)
+    (λ good. by-test Fits (ltb room (length (reportText ws)))
+    (λ over is.
+    let short = report-short ws (well-to ws good .few) in
+    let long = ltb-true room (length (reportText ws)) over in
+    omega arith)
+    (λ under is. let z : _≡_ {A = ℕ} 0 1 = cc in omega arith))
   where
-    go :
-        (a : Bool) → refusal7 ws ≡ a → (b : Bool) → ltb room (length (reportText ws)) ≡ b
-        → (if a then written.Refused 7 else if b then written.Refused 8 else written.Length (length (reportText ws))) ≡ written.Refused 8
-        → ⊥
-    go true a b b′ is = let same : _≡_ {A = ℕ} 7 8 = cc in omega arith
-    go false a true b is =
-        let short = report-short ws (well-to ws a .few) in
-        let long = ltb-true room (length (reportText ws)) b in
-        omega arith
-    go false a false b is = let z : _≡_ {A = ℕ} 0 1 = cc in omega arith
+    Fits : Written → Type 0
+    Fits says = says ≡ written.Refused 8 → ⊥
 
 -- each promise is equations
 pub one-lookup : OneLookup

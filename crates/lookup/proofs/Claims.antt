@@ -3,13 +3,11 @@
 use Prim.Native.Nat.{ℕ, _^_, _≤_}
 use native.Mathlib.Omega.{arith}
 use mathlib.Core.Path.{_≡_, refl, sym, ap, _∙_}
-use mathlib.Core.Bool.{Bool, true, false}
 use mathlib.Core.List.{List}
 use mathlib.Core.Logic.{_⊎_, inl, inr}
 use lib.ListN.{length}
 use lib.Pow.{pow-mono}
-use Rattle.bit_fields.specs.Choice.{if_then_else_}
-use Rattle.bit_fields.proofs.ChoiceLaws.{either}
+use Rattle.bit_fields.proofs.ChoiceLaws.{alike, either}
 use Rattle.ids.specs.Ids.{refusal3}
 use Rattle.ids.specs.declared.Request.{Request}
 use Rattle.registers.specs.Sizes.{refusal1, oasSize, sizeOf}
@@ -77,32 +75,24 @@ listed-few r base memory request =
     )
 
 -- list dependence: the refusals read no byte, and the rules depend on what they list
-module _ (r : Registers) (e : Extent) (request : Request) where
-  -- the answer by the tests of the refusals, on the bytes f
-  over : Bool → Bool → Bool → (ℕ → ℕ) → Looked
-  over a b c f =
-      if a then refusedWith 1
-      else if b then refusedWith 2
-      else if c then refusedWith 3
-      else answered (run e (2 ^ oasSize r) f (lookupRule r request))
-
-  over-depends :
-      (a b c : Bool) (f g : ℕ → ℕ) → EachPiece (Agree e f g) (over a b c f .list) → over a b c g ≡ over a b c f
-  unfolding over
-  over-depends true b c f g agree = refl
-  over-depends false true c f g agree = refl
-  over-depends false false true f g agree = refl
-  over-depends false false false f g agree =
-      let fetched = run-few e (2 ^ oasSize r) f 4 (lookupRule r request) (lookup-few r request) in
-      let few : length (run e (2 ^ oasSize r) f (lookupRule r request) .list) ≤ piecesMost = omega arith in
-      rw (depends e (2 ^ oasSize r) f g (lookupRule r request) (pieces-each _ (run e (2 ^ oasSize r) f (lookupRule r request) .list) few agree))
-
 pub depends-on-list : DependsOnList
-unfolding lookedUp ruled over
+unfolding lookedUp ruled
 depends-on-list r base memory other request same agree =
     rw same
-    (over-depends r (extentOf base memory) request (refusal1 r) (refusal2 (extentOf base memory)) (refusal3 request) (bytes memory) (bytes other)
-    agree)
+    (alike Depends (refusal1 r) (λ agree. refl)
+    (alike Depends (refusal2 (extentOf base memory)) (λ agree. refl) (alike Depends (refusal3 request) (λ agree. refl) walked)) agree)
+  where
+    Depends : Looked → Looked → Type 0
+    Depends here there = EachPiece (Agree (extentOf base memory) (bytes memory) (bytes other)) (here .list) → there ≡ here
+
+    walked :
+        Depends (answered (run (extentOf base memory) (2 ^ oasSize r) (bytes memory) (lookupRule r request)))
+        (answered (run (extentOf base memory) (2 ^ oasSize r) (bytes other) (lookupRule r request)))
+    walked agree =
+        let fetched = run-few (extentOf base memory) (2 ^ oasSize r) (bytes memory) 4 (lookupRule r request) (lookup-few r request) in
+        let list = run (extentOf base memory) (2 ^ oasSize r) (bytes memory) (lookupRule r request) .list in
+        let few : length list ≤ piecesMost = omega arith in
+        rw (depends (extentOf base memory) (2 ^ oasSize r) (bytes memory) (bytes other) (lookupRule r request) (pieces-each _ list few agree))
 
 pub one-answer : OneAnswer
 one-answer r base memory request x y first second = first ∙ sym second

@@ -17,6 +17,7 @@ use lib.Seq.{getD-append-add}
 use denote.Ref.{RefT, ptr, now}
 use Rattle.number_laws.proofs.Scans.{left-none, left-one}
 use Rattle.bit_fields.specs.Choice.{if_then_else_}
+use Rattle.bit_fields.proofs.ChoiceLaws.{alike, either}
 use Rattle.ids.specs.Ids.{refusal3}
 use Rattle.ids.specs.declared.Request.{Request}
 use Rattle.ids.specs.declared.Substream.{Substream}
@@ -40,7 +41,7 @@ use Rattle.stream_table.specs.declared.Found.{Found}
 use Rattle.stream_table.specs.declared.Found.the-variants.{Ste, Ended}
 use Rattle.stream_table.proofs.StreamLaws.{stream-every}
 use Rattle.stream_entry.specs.StreamEntry.{steRule}
-use Rattle.lookup.specs.Lookup.{fromEntry, fromSte, lookupRule, ruled, lookedUp, refusedWith, answered}
+use Rattle.lookup.specs.Lookup.{fromEntry, fromSte, lookupRule, ruled, lookedUp, refusedWith}
 use Rattle.lookup.specs.Part.{placeOf, steAtRule, steAt, steFrom, SteHanded}
 use Rattle.lookup.specs.declared.Looked.{Looked}
 use Rattle.lookup.proofs.RuledLaws.{ruled-few}
@@ -152,21 +153,16 @@ module _ (r : Registers) (base : ℕ) (memory : List ℕ) where
         → at ≡ steAt r base memory request
     unfolding lookedUp steAt piecesOf
     listed-at is found =
-        found ∙ rw is (go (refusal1 r) (refusal2 (extentOf base memory)) (refusal3 request))
+        found
+        ∙ rw is
+        (alike Hands (refusal1 r) (none-first 1)
+        (alike Hands (refusal2 (extentOf base memory)) (none-first 2) (alike Hands (refusal3 request) (none-first 3) last)))
       where
+        Hands : Looked → Fetched → Type 0
+        Hands looked at = steFrom base (looked .list .piece) piecesMost 0 ≡ at
+
         last : steFrom base (padded piecesMost (ruled r base memory request .list)) piecesMost 0 ≡ walked
         last = behind base [] piecesMost (ruled r base memory request .list) (ruled-few r base memory request) ∙ ruled-first
-
-        go :
-            (a b c : Bool)
-            → steFrom base
-            ((if a then refusedWith 1 else if b then refusedWith 2 else if c then refusedWith 3 else answered (ruled r base memory request))
-            .list .piece) piecesMost 0
-            ≡ (if a then Outside else if b then Outside else if c then Outside else walked)
-        go true b c = none-first 1
-        go false true c = none-first 2
-        go false false true = none-first 3
-        go false false false = last
 
 -- what is found lies in the memory
 nowhere : {A : Type 0} {place : ℕ} → Outside ≡ At place → A
@@ -202,16 +198,14 @@ pub ste-inside :
     → at ≡ steAt r base memory request → at ≡ At place → place + 64 ≤ length memory
 unfolding steAt steAtRule
 ste-inside r base memory request {at} {place} said is =
-    go (refusal1 r) (refusal2 (extentOf base memory)) (refusal3 request) (sym said ∙ is)
+    either Inside (refusal1 r) nowhere
+    (either Inside (refusal2 (extentOf base memory)) nowhere (either Inside (refusal3 request) nowhere walked)) (sym said ∙ is)
   where
-    walked : Fetched
-    walked = run (extentOf base memory) (2 ^ oasSize r) (bytes memory) (steAtRule r base (request .stream .number)) .answer
+    Inside : Fetched → Type 0
+    Inside found = found ≡ At place → place + 64 ≤ length memory
 
-    go : (a b c : Bool) → (if a then Outside else if b then Outside else if c then Outside else walked) ≡ At place → place + 64 ≤ length memory
-    go true b c found = nowhere found
-    go false true c found = nowhere found
-    go false false true found = nowhere found
-    go false false false found =
+    walked : Inside (run (extentOf base memory) (2 ^ oasSize r) (bytes memory) (steAtRule r base (request .stream .number)) .answer)
+    walked found =
         let chained = run-then (extentOf base memory) (2 ^ oasSize r) (bytes memory) (placeOf base) (streamRule r (request .stream .number)) in
         place-inside base memory (2 ^ oasSize r) place _ (sym (ap (λ (ran : Ran Fetched). ran .answer) chained) ∙ found)
 

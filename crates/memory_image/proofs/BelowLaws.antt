@@ -14,7 +14,7 @@ use lib.ListN.{length, take, length-take}
 use lib.Seq.{take-all, getD-take}
 use Rattle.memory_image.specs.Extent.{extentOf, endOf, below, fetched}
 use Rattle.memory_image.specs.Words.{bytes}
-use Rattle.memory_image.specs.Rule.{Rule, done, fetch, run, wordsAt, piece, Every}
+use Rattle.memory_image.specs.Rule.{Rule, done, fetch, run, wordsAt, descriptor, Every}
 use Rattle.memory_image.proofs.ExtentLaws.{fetched-lies}
 use Rattle.memory_image.proofs.RunLaws.{run-done, run-had, run-fault, words-agree}
 
@@ -77,7 +77,7 @@ module _ (base limit : ℕ) (memory : List ℕ) where
       → wordsAt (bytes memory) (address - base) n ≡ wordsAt (bytes part) (address - base) n
   unfolding below
   words-below address n test =
-      let lies = fetched-lies (extentOf base part) (endOf (extentOf base part)) (piece address n) test in
+      let lies = fetched-lies (extentOf base part) (endOf (extentOf base part)) (descriptor address n) test in
       let from = lies .from in
       let inside = lies .inside in
       words-agree (extentOf base part) (bytes memory) (bytes part) address n from

@@ -20,7 +20,7 @@ use lib.ListN.{length}
 use Rattle.bit_fields.specs.Choice.{if_then_else_}
 use Rattle.memory_image.specs.Extent.{Extent, fetched}
 use Rattle.memory_image.specs.Words.{word}
-use Rattle.memory_image.specs.Rule.{Rule, done, fetch, Ran, piece, wordsAt, listed, run, andThen, Fetches, Every, Gives, Each, Lies, Agree}
+use Rattle.memory_image.specs.Rule.{Rule, done, fetch, Ran, descriptor, wordsAt, listed, run, andThen, Fetches, Every, Gives, Each, Lies, Agree}
 use Rattle.memory_image.specs.declared.Piece.{Piece}
 use Rattle.memory_image.proofs.ExtentLaws.{fetched-lies}
 use Rattle.memory_image.proofs.WordsLaws.{word-agree}
@@ -33,7 +33,7 @@ module _ {A : Type 0} (e : Extent) (limit : ℕ) (f : ℕ → ℕ) where
   module _ (address n : ℕ) (fault : Rule A) (rest : (ℕ → ℕ) → Rule A) where
     pub run-had :
         fetched e limit address (8 * n) ≡ true
-        → run e limit f (fetch address n fault rest) ≡ listed (piece address n) (run e limit f (rest (wordsAt f (address - e .base) n)))
+        → run e limit f (fetch address n fault rest) ≡ listed (descriptor address n) (run e limit f (rest (wordsAt f (address - e .base) n)))
     unfolding run
     run-had test = rw test
 
@@ -51,7 +51,7 @@ module _ {A : Type 0} (e : Extent) (limit : ℕ) (f : ℕ → ℕ) where
           → Each (Lies e limit) (run e limit f (rest (wordsAt f (address - e .base) n)) .list)
           → Each (Lies e limit) (run e limit f fault .list)
           → Each (Lies e limit) (run e limit f (fetch address n fault rest) .list)
-      go true test on out = rw (run-had address n fault rest test) (fetched-lies e limit (piece address n) test, on)
+      go true test on out = rw (run-had address n fault rest test) (fetched-lies e limit (descriptor address n) test, on)
       go false test on out = rw (run-fault address n fault rest test) out
 
   pub run-few : (most : ℕ) (t : Rule A) → Fetches most t → length (run e limit f t .list) ≤ most
@@ -101,7 +101,7 @@ module _ {A : Type 0} (e : Extent) (limit : ℕ) (f : ℕ → ℕ) where
 
 -- the words of a descriptor are those of any memory that agrees on its piece
 pub words-agree :
-    (e : Extent) (f g : ℕ → ℕ) (address n : ℕ) → e .base ≤ address → Agree e f g (piece address n)
+    (e : Extent) (f g : ℕ → ℕ) (address n : ℕ) → e .base ≤ address → Agree e f g (descriptor address n)
     → wordsAt f (address - e .base) n ≡ wordsAt g (address - e .base) n
 words-agree e f g address n from agree = fun-ext (λ k. go k (ltb k n) refl)
   where
@@ -135,7 +135,7 @@ module _ {A : Type 0} (e : Extent) (limit : ℕ) (f g : ℕ → ℕ) where
           → run e limit g (fetch address n fault rest) ≡ run e limit f (fetch address n fault rest)
       go true test on out =
           let parts = rw (run-had e limit f address n fault rest test) at agree in
-          let from = fetched-lies e limit (piece address n) test .from in
+          let from = fetched-lies e limit (descriptor address n) test .from in
           let same = words-agree e f g address n from (parts .0) in
           rw (run-had e limit f address n fault rest test, run-had e limit g address n fault rest test, ← same, on (parts .1))
       go false test on out =
@@ -163,7 +163,7 @@ module _ {A B : Type 0} (e : Extent) (limit : ℕ) (f : ℕ → ℕ) (next : A �
       go : (b : Bool) → fetched e limit address (8 * n) ≡ b → both-ways F → both-ways fault → both-ways (fetch address n fault rest)
       go true test on out =
           rw (run-had e limit f address n fault rest test, run-had e limit f address n (andThen fault next) (λ w. andThen (rest w) next) test)
-          (ap (listed (piece address n)) on)
+          (ap (listed (descriptor address n)) on)
       go false test on out =
           rw (run-fault e limit f address n fault rest test, run-fault e limit f address n (andThen fault next) (λ w. andThen (rest w) next) test) out
 

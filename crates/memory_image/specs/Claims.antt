@@ -13,7 +13,7 @@ use mathlib.Core.Bool.{true, false}
 use mathlib.Core.List.{_∷_, _++_}
 use lib.ListN.{length}
 use Rattle.memory_image.specs.Extent.{Extent, fetched}
-use Rattle.memory_image.specs.Rule.{Rule, fetch, piece, wordsAt, run, andThen, Fetches, Each, Lies, Agree}
+use Rattle.memory_image.specs.Rule.{Rule, fetch, descriptor, wordsAt, run, andThen, Fetches, Each, Lies, Agree}
 
 abbrev pub DependsOnList : Type 0 → Type 0
 DependsOnList A =
@@ -34,7 +34,7 @@ FetchedIsListed A =
     (e : Extent) (limit : ℕ) (f : ℕ → ℕ) (address n : ℕ) (fault : Rule A) (rest : (ℕ → ℕ) → Rule A)
     → fetched e limit address (8 * n) ≡ true
     → run e limit f (fetch address n fault rest) .list
-    ≡ piece address n ∷ run e limit f (rest (wordsAt f (address - e .base) n)) .list
+    ≡ descriptor address n ∷ run e limit f (rest (wordsAt f (address - e .base) n)) .list
 
 abbrev pub ThenGivesAndLists : Type 0 → Type 0 → Type 0
 ThenGivesAndLists A B =

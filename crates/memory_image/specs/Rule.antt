@@ -1,5 +1,6 @@
 -- A rule that reads descriptors is a tree: it is done, or it fetches a descriptor and goes on with its words.
 --     Rule        the trees
+--     descriptor  the piece of memory that a descriptor of so many words takes up
 --     run         what a rule gives on the bytes of an extent, and the list of the descriptors that it fetched
 --     andThen     one rule, and then another from what it gives
 --     Fetches     at most so many fetches, whichever way a rule goes
@@ -23,8 +24,8 @@ pub data Rule (A : Type 0) : Type 0 where
   done : A → Rule A
   fetch : ℕ → ℕ → Rule A → ((ℕ → ℕ) → Rule A) → Rule A
 
-abbrev pub piece : ℕ → ℕ → Piece
-piece address words = record { address = address; length = 8 * words }
+abbrev pub descriptor : ℕ → ℕ → Piece
+descriptor address words = record { address = address; length = 8 * words }
 
 -- the words of a descriptor at an offset, and 0 past its last
 abbrev pub wordsAt : (ℕ → ℕ) → ℕ → ℕ → ℕ → ℕ
@@ -41,7 +42,7 @@ listed p r = record { answer = r .answer; list = p ∷ r .list }
 unfoldable pub run : {A : Type 0} → Extent → ℕ → (ℕ → ℕ) → Rule A → Ran A
 run e limit f (done x) = record { answer = x; list = [] }
 run e limit f (fetch address n fault rest) =
-    if fetched e limit address (8 * n) then listed (piece address n) (run e limit f (rest (wordsAt f (address - e .base) n)))
+    if fetched e limit address (8 * n) then listed (descriptor address n) (run e limit f (rest (wordsAt f (address - e .base) n)))
     else run e limit f fault
 
 unfoldable pub andThen : {A B : Type 0} → Rule A → (A → Rule B) → Rule B

@@ -3,20 +3,20 @@
 use Prim.Native.Nat.{ℕ, _+_, _≤_}
 use native.Mathlib.Omega.{arith}
 use native.Mathlib.Nat.{zero-add}
-use mathlib.Core.Path.{_≡_, refl, sym, ap, _∙_}
-use mathlib.Core.Bool.{Bool, true, false}
+use mathlib.Core.Path.{_≡_, sym, ap, _∙_}
 use mathlib.Core.List.{List}
 use borrow.Author.Tests.{ltb-false}
 use lib.Dec.{ltb}
 use lib.ListN.{getD, length}
-use Rattle.bit_fields.specs.Choice.{if_then_else_}
+use Rattle.bit_fields.proofs.ChoiceLaws.{either, by-test}
 use Rattle.book_words.specs.Malformed.{refusal7}
 use Rattle.book_history.proofs.Claims.{never-malformed}
 use Rattle.placed.specs.Placed.{placed}
 use Rattle.placed.proofs.PlacedLaws.{placed-at, placed-above}
 use Rattle.report.specs.Report.{Reported, ifWritten, reportSays, reportText}
 use Rattle.report.specs.Claims.{OneReport, LaterBytesStay, TextIsThere, OnlyRefusedForRoom}
-use Rattle.report.specs.declared.Written.the-variants.{Refused, Length}
+use Rattle.report.specs.declared.Written.{Written}
+use Rattle.report.specs.declared.Written.the-variants.{Length}
 
 pub one-report : OneReport
 one-report ws before x y after other a b = (a .result ∙ sym (b .result), a .buffer ∙ sym (b .buffer))
@@ -29,18 +29,15 @@ record Wrote (ws before after : List ℕ) (n : ℕ) : Type 0 where
 
 wrote : (ws before after : List ℕ) (n : ℕ) → Reported ws before (Length n) after → Wrote ws before after n
 unfolding reportSays
-wrote ws before after n said = go (refusal7 ws) (ltb (length before) (length (reportText ws))) refl refl (said .result) (said .buffer)
+wrote ws before after n said =
+    either Says (refusal7 ws) (λ result buffer. let z : _≡_ {A = ℕ} 0 1 = cc in absurd (omega arith))
+    (by-test Says (ltb (length before) (length (reportText ws))) (λ over result buffer. let z : _≡_ {A = ℕ} 0 1 = cc in absurd (omega arith))
+    (λ under result buffer.
+    let room : length (reportText ws) ≤ length before = ltb-false _ _ under in
+    record { long = cc; fits = omega arith; holds = buffer })) (said .result) (said .buffer)
   where
-    go :
-        (a b : Bool) → refusal7 ws ≡ a → ltb (length before) (length (reportText ws)) ≡ b
-        → Length n ≡ (if a then Refused 7 else if b then Refused 8 else Length (length (reportText ws)))
-        → after ≡ ifWritten (if a then Refused 7 else if b then Refused 8 else Length (length (reportText ws))) before (placed before 0 (reportText ws))
-        → Wrote ws before after n
-    go true b x y result buffer = let z : _≡_ {A = ℕ} 0 1 = cc in absurd (omega arith)
-    go false true x y result buffer = let z : _≡_ {A = ℕ} 0 1 = cc in absurd (omega arith)
-    go false false x y result buffer =
-        let room : length (reportText ws) ≤ length before = ltb-false _ _ y in
-        record { long = cc; fits = omega arith; holds = buffer }
+    Says : Written → Type 0
+    Says says = Length n ≡ says → after ≡ ifWritten says before (placed before 0 (reportText ws)) → Wrote ws before after n
 
 pub later-bytes-stay : LaterBytesStay
 later-bytes-stay ws before after n x said past =

@@ -1,11 +1,12 @@
 -- Proof of `book_words::copy`: what is left to copy is the whole of it.
 -- Assumes: nothing.
+use borrow.Author.Needs.{needs}
 use native.Mathlib.Omega.{arith}
 use Prim.Native.Nat.{_≤_, _-_}
-use mathlib.Core.Path.{_≡_, refl, sym, _∙_}
+use mathlib.Core.Path.{_≡_, refl}
 use Rattle.answers.specs.Layout.{answerWords}
 use Rattle.book_words.specs.Layout.{copied}
-use Rattle.book_words.proofs.ScanLaws.{copy-step, copy-end}
+use Rattle.book_words.proofs.ScanLaws.{copy-more, copy-end}
 use Rattle.book_words.proofs.copy.Statement.{statement}
 use Rattle.book_words.proofs.copy.Tie as tie
 
@@ -17,10 +18,10 @@ abbrev μ-loop : tie.MeasureT-loop
 μ-loop book₀ b block j₀ book j = answerWords - j
 
 loop-again : tie.Need-loop-again Inv-loop μ-loop
-loop-again c = (omega arith, c .before .before .loop .inv .1 ∙ copy-step _ _ _ answerWords _ (omega arith))
+loop-again c = (omega arith, search (needs, copy-more))
 
 returns : tie.Need-returns Inv-loop μ-loop
-returns c = sym (c .before .loop .inv .1 ∙ copy-end _ _ _ answerWords _ (omega arith))
+returns c = search (needs, copy-end)
 
 pub copy-spec : {M : Type 1} → statement M
 copy-spec =

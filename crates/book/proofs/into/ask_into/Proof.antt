@@ -18,8 +18,8 @@ returns-3 c = search (needs, ask-third)
 add-key : tie.Need-add-key
 add-key c = search (needs, key-fits)
 
-find-requires : tie.Need-find-requires
-find-requires c κs = search (needs, few-slots)
+first-from-requires : tie.Need-first-from-requires
+first-from-requires c κs = search (needs, few-slots)
 
 block-requires : tie.Need-block-requires
 block-requires c κs = search (needs, slot-below)
@@ -47,7 +47,7 @@ ask-into-spec =
     (λ c. search needs)
     (λ c κs. search needs)
     add-key
-    find-requires
+    first-from-requires
     block-requires
     (λ c κs. search needs)
     returns-4

@@ -1,4 +1,4 @@
--- Proof of `book_words::find`: what is left of the search is the whole of it.
+-- Proof of `book_words::first_from`: what is left of the search is the whole of it.
 -- Assumes: nothing.
 use borrow.Author.Needs.{needs}
 use native.Mathlib.Omega.{arith}
@@ -7,8 +7,8 @@ use native.Mathlib.Nat.{sub-zero}
 use mathlib.Core.Path.{_≡_}
 use Rattle.book_words.specs.Malformed.{firstFrom}
 use Rattle.book_words.proofs.ScanLaws.{first-none, first-found, first-more}
-use Rattle.book_words.proofs.find.Statement.{statement}
-use Rattle.book_words.proofs.find.Tie as tie
+use Rattle.book_words.proofs.first_from.Statement.{statement}
+use Rattle.book_words.proofs.first_from.Tie as tie
 
 abbrev Inv-loop : tie.InvT-loop
 Inv-loop book key n i₀ i = (i ≤ n) × (firstFrom book key n 0 ≡ firstFrom book key (n - i) i)
@@ -28,8 +28,8 @@ loop-again c = (omega arith, search (needs, first-more))
 returns-2 : tie.Need-returns-2 Inv-loop μ-loop
 returns-2 c = (search (needs, first-none), omega arith)
 
-pub find-spec : {M : Type 1} → statement M
-find-spec =
+pub first-from-spec : {M : Type 1} → statement M
+first-from-spec =
     tie.close
     (tie.spec
     Inv-loop
