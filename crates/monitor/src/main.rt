@@ -3,6 +3,7 @@
 use book_words::BOOK_WORDS;
 use libc::STDERR_FILENO;
 use libc::STDIN_FILENO;
+use script::MEMORY_HELD;
 use script::reasons::LINE_TOO_LONG;
 use state::State;
 
@@ -16,7 +17,7 @@ mod state;
 fn main() {
     let mut input = [0u8; 65536];
     let mut line = [0u8; 4096];
-    let mut memory = [0u8; 65536];
+    let mut memory = [0u8; MEMORY_HELD as usize];
     let mut book = [0u64; BOOK_WORDS];
     let mut out = [0u8; 65536];
     run(&mut input, &mut line, &mut memory, &mut book, &mut out);

@@ -24,6 +24,9 @@ pub mod reasons;
 mod requests;
 mod settings;
 
+// The most bytes of memory that a script can ask for: the program holds so many itself.
+pub const MEMORY_HELD: u64 = 65536;
+
 pub enum Said {
     // An empty line, or a comment.
     Nothing,
@@ -31,7 +34,7 @@ pub enum Said {
     Wrong(u64),
     // A register gets a number, below 2^32 for each but STRTAB_BASE.
     Register(Register, u64),
-    // The lent memory gets a base and a length, at most 65,536.
+    // The lent memory gets a base and a length, at most MEMORY_HELD.
     Memory(u64, u64),
     // The bytes of a word go into the memory from an offset on, so many times.
     Put {

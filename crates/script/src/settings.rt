@@ -1,4 +1,5 @@
 // The lines that set something: `register` and `memory`.
+use crate::MEMORY_HELD;
 use crate::Said;
 use crate::names::Register;
 use crate::names::register_of;
@@ -6,7 +7,6 @@ use crate::reasons::NO_SUCH_REGISTER;
 use crate::reasons::RIGHT;
 use crate::reasons::first;
 use crate::reasons::number_in;
-use memory_image::MEMORY_MOST;
 
 // `register NAME NUMBER`
 pub fn register(line: &[u8]) -> Said {
@@ -34,7 +34,7 @@ fn most_of(named: Register) -> u64 {
 // `memory BASE LENGTH`
 pub fn memory(line: &[u8]) -> Said {
     let base = number_in(words::nth(line, 1), u64::MAX);
-    let length = number_in(words::nth(line, 2), MEMORY_MOST);
+    let length = number_in(words::nth(line, 2), MEMORY_HELD);
     let wrong = first(base.wrong, length.wrong);
     if wrong != RIGHT {
         return Said::Wrong(wrong);
