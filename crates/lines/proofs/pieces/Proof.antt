@@ -3,15 +3,16 @@
 use Prim.Native.Nat.{_≤_, _-_}
 use mathlib.Core.Path.{_≡_}
 use lib.ListN.{length}
+use Rattle.answers.specs.Layout.{piecesMost}
 use borrow.Author.Needs.{needs}
 use Rattle.lines.proofs.pieces.Statement.{statement}
 use Rattle.lines.proofs.pieces.Tie as tie
 
 abbrev Inv-loop : tie.InvT-loop
-Inv-loop out₀ at list to₀ i₀ out to i = (i ≤ 4) × (length out ≡ length out₀)
+Inv-loop out₀ at list to₀ i₀ out to i = (i ≤ piecesMost) × (length out ≡ length out₀)
 
 abbrev μ-loop : tie.MeasureT-loop
-μ-loop out₀ at list to₀ i₀ out to i = 4 - i
+μ-loop out₀ at list to₀ i₀ out to i = piecesMost - i
 
 pub pieces-spec : {M : Type 1} → statement M
 pieces-spec =
