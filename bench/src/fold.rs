@@ -21,8 +21,8 @@ fn sum(words: impl IntoIterator<Item = u64>, from: usize) -> u64 {
     })
 }
 
-/// The words that the archive puts. Pieces are read by words: two stores of eight bytes that are loaded as one of sixteen make the
-/// processor wait.
+/// The words that the archive puts. Pieces are read word by word, in a loop whose length is known: iterators over them took half as long
+/// again as a whole lookup.
 #[inline(always)]
 pub fn words(words: &[u64; ANSWER_WORDS]) -> u64 {
     let values = match words {
