@@ -2,7 +2,7 @@
 --     words-length                       how many there are
 --     outcome-back, list-back            the outcome and the list are read back: nothing is lost
 --     stands-proper                      the words of a proper answer stand
---     outcome-proper, stands-count, listed-end   of words that stand: the outcome is proper, there are at most as many pieces as a list has, each ends at or below 2^52
+--     outcome-proper, stands-count       of words that stand: the outcome is proper, there are at most as many pieces as a list has
 --     of-translate .. of-quiet           the outcome by the words' kind
 --     low-kind, high-kind, outcome-unfit, list-decides    the tests of `stands` in order
 --     put-words                          an outcome put before a list: the words of both
@@ -20,18 +20,17 @@ use lib.ListN.{length, getD, length-append}
 use lib.Seq.{getD-append-add}
 use Rattle.number_laws.proofs.Tests.{both}
 use Rattle.placed.specs.From.{valuesFrom}
-use Rattle.memory_image.specs.Extent.{addressTop}
 use Rattle.memory_image.specs.declared.Piece.{Piece}
 use Rattle.answers.specs.Layout.{valuesMost, piecesMost, answerWords, kindAt, valuesAt}
 use Rattle.answers.specs.Values.{kindOf, kindsMost, valuesOf}
-use Rattle.answers.specs.Pieces.{nothing, onlyList}
+use Rattle.answers.specs.Pieces.{onlyList}
 use Rattle.answers.specs.Proper.{properOutcome, properPieces}
 use Rattle.answers.specs.declared.Outcome.{Outcome}
 use Rattle.answers.specs.declared.Outcome.the-variants.{Translate, Bypass, BypassGlobal, Abort, Quiet, Unserved}
 use Rattle.answers.specs.declared.Translation.{Translation}
 use Rattle.answers.specs.declared.Pieces.{Pieces}
 use Rattle.answers.proofs.PiecesLaws.{pieceNumbers, words-numbers}
-use Rattle.answers.proofs.ProperLaws.{few-proper, ends-proper}
+use Rattle.answers.proofs.ProperLaws.{few-proper}
 use Rattle.answer_words.specs.AnswerWords.{laidOut, wordsOf, translationIn, outcomeOf, piecesIn, listOf, stands, putFrom, outcomePut}
 
 pub words-length : (o : Outcome) (l : Pieces) → length (wordsOf o l) ≡ answerWords
@@ -117,11 +116,6 @@ module _ (ws : List ℕ) (stand : stands ws ≡ true) where
 
   pub stands-count : listOf ws .count ≤ piecesMost
   stands-count = few-proper (listOf ws) (parts .1)
-
-  pub listed-end :
-      (i : ℕ) → i < listOf ws .count
-      → getD (listOf ws .piece) i nothing .address + getD (listOf ws .piece) i nothing .length ≤ addressTop
-  listed-end = ends-proper (listOf ws) (parts .1)
 
 -- the outcome, by the words' kind
 module _ (ws : List ℕ) where

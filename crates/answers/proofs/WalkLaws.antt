@@ -1,7 +1,7 @@
 -- A rule run with its list in an answer's words, for every rule.
 --     walk-done               a rule that is done leaves the words
 --     walk-fault, walk-read   a fetch by what `memory_image::fetch` answered: it failed; it was had, and the list has one piece more
---     read-one, read-all      the same for a descriptor of one word that ends the rule, and for one of eight words
+--     fault-one, read-one     the same for a descriptor whose first word ends the rule; read-all: for one of eight words
 --     walk-then               one rule and then another
 --     walk-run                from no list on, the words have the list that `run` gives
 -- Assumes: nothing.

@@ -3,7 +3,6 @@
 --     there-four, there-sixteen, there-sixty-four, there-none            IDR5 by the granule
 --     ips-all, ips-size                 IPS 7; any other
 --     half-granule, half-low, half-high, half-range    which test of the rule fails; the last decides
---     half-is, translation-is           a half and a translation from their parts
 -- Assumes: nothing.
 use Prim.Native.Nat.{ℕ, _≤_, _<_, min}
 use mathlib.Core.Path.{_≡_}

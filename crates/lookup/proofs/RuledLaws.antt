@@ -1,5 +1,5 @@
 -- From the walk to what the rules give, and the refusals.
---     lookup-few                 at most four descriptors are fetched
+--     lookup-few, ruled-few      at most four descriptors are fetched, and listed
 --     lookup-every               of 8 bytes or of 64
 --     lookup-gives               whatever can be given is proper
 --     limit-is                   2^(OAS size), as the code computes it

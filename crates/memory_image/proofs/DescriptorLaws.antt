@@ -2,7 +2,6 @@
 --     had-at              what a fetch that found it says
 --     read-word           a word of it, as it is read at its place, is the one that the rule's rest is handed
 --     read-words          and so are all the words of one of eight
---     place-ends          one of 64 bytes ends in the memory
 -- Assumes: nothing.
 use Prim.Native.Nat.{ℕ, _+_, _-_, _*_, _≤_, _<_}
 use native.Mathlib.Omega.{arith}
@@ -33,9 +32,6 @@ module _ (base : ℕ) (memory : List ℕ) (limit address n : ℕ) {said : Fetche
 
 module _ (base : ℕ) (memory : List ℕ) (limit address : ℕ) {said : Fetched} {place : ℕ}
     (is : said ≡ fetchRule (extentOf base memory) limit address 64) (at : said ≡ At place) where
-  pub place-ends : place + 64 ≤ length memory
-  place-ends = had-at base memory limit address 8 is at .inside
-
   pub read-words : wordOf memory place ≡ wordsAt (bytes memory) (address - base) 8
   read-words = fun-ext (λ k. go k (ltb k 8) refl)
     where

@@ -1,6 +1,5 @@
 -- Refusal 2 and the fetch, by the tests that the code makes.
 --     refused-base, refused-length, refused-end   which clause refuses; the last decides
---     accepted                                    what an extent that is not refused has
 --     before, past-end, had                       the ways of a fetch, by where the bytes lie
 --     fetched-lies, lies-fetched                  what is fetched lies in the memory and below the limit, and the other way round
 --     at-place, outside                           what the two answers say of the fetch
@@ -8,10 +7,10 @@
 use Prim.Native.Nat.{ℕ, _+_, _-_, _%_, _≤_, _<_}
 use native.Mathlib.Omega.{arith}
 use mathlib.Core.Path.{_≡_, refl, sym}
-use mathlib.Core.Bool.{Bool, true, false, not, _&&_, _||_}
-use borrow.Author.Tests.{eq-eqb, ne-eqb, lt-ltb, le-ltb, le-leb, lt-leb, eqb-true, ltb-true, ltb-false, leb-true}
-use lib.Dec.{eqb, ltb}
-use Rattle.number_laws.proofs.Tests.{both, not-both}
+use mathlib.Core.Bool.{Bool, true, false, _&&_}
+use borrow.Author.Tests.{eq-eqb, ne-eqb, lt-ltb, le-ltb, le-leb, lt-leb, ltb-true, ltb-false, leb-true}
+use lib.Dec.{ltb}
+use Rattle.number_laws.proofs.Tests.{both}
 use Rattle.bit_fields.specs.Choice.{if_then_else_}
 use Rattle.memory_image.specs.Extent.{Extent, memoryMost, addressTop, refusal2, fetched, fetchRule}
 use Rattle.memory_image.specs.Rule.{Lies}
@@ -42,29 +41,6 @@ module _ (base length : ℕ) where
       go false is =
           let below = ltb-false (addressTop - length) base is in
           sym (le-ltb (addressTop) (base + length) (omega arith))
-
-pub record Accepted (e : Extent) : Type 0 where
-  pub aligned : e .base % 64 ≡ 0
-  pub short : e .length ≤ memoryMost
-  pub below : e .base + e .length ≤ addressTop
-
-pub accepted : (e : Extent) → refusal2 e ≡ false → Accepted e
-unfolding refusal2
-accepted e is =
-    go (eqb (e .base % 64) 0) refl (ltb memoryMost (e .length)) refl (ltb (addressTop) (e .base + e .length)) refl is
-  where
-    go :
-        (a : Bool) → eqb (e .base % 64) 0 ≡ a → (b : Bool) → ltb memoryMost (e .length) ≡ b
-        → (c : Bool) → ltb (addressTop) (e .base + e .length) ≡ c → not a || (b || c) ≡ false → Accepted e
-    go false x b y c z is = not-both is
-    go true x true y c z is = not-both is
-    go true x false y true z is = not-both is
-    go true x false y false z is =
-        record {
-          aligned = eqb-true (e .base % 64) 0 x;
-          short = ltb-false memoryMost (e .length) y;
-          below = ltb-false (addressTop) (e .base + e .length) z;
-        }
 
 module _ (e : Extent) (limit : ℕ) (p : Piece) where
   pub fetched-lies : fetched e limit (p .address) (p .length) ≡ true → Lies e limit p

@@ -1,17 +1,16 @@
 -- Sizes, and refusal 1 by its clauses.
 --     size-none, size-packed      a code past the list, and one in it: a byte of a word that has them all
 --     size-at-most, oas-at-most   no size is above 52, nor is this SMMU's
+--     size-of-oas                 this SMMU's, by its code
 --     refused-oas, refused-sid, refused-ssid    which clause refuses; the last decides
---     accepted                    what registers that are not refused have
 -- Assumes: nothing.
 use Prim.Native.Nat.{ℕ, zero, suc, _*_, _≤_, _<_}
 use native.Mathlib.Omega.{arith}
 use mathlib.Core.Path.{_≡_, refl, sym}
-use mathlib.Core.Bool.{Bool, true, false, _||_}
-use borrow.Author.Tests.{eq-eqb, ne-eqb, lt-ltb, le-ltb, eqb-false, ltb-false, leb-true}
-use lib.Dec.{eqb, leb, ltb}
+use mathlib.Core.Bool.{true}
+use borrow.Author.Tests.{eq-eqb, ne-eqb, lt-ltb, le-ltb, leb-true}
+use lib.Dec.{leb, ltb}
 use lib.ListN.{getD, List·getD-eq-default}
-use Rattle.number_laws.proofs.Tests.{not-both}
 use Rattle.number_laws.proofs.Tables.{at-each}
 use Rattle.bit_fields.specs.Bits.{field}
 use Rattle.registers.specs.Fields.{oas, sidSize, ssidSize}
@@ -63,26 +62,3 @@ module _ (r : Registers) where
       pub refused-ssid : s ≤ 32 → {ss : ℕ} → ss ≡ ssidSize r → ltb 20 ss ≡ refusal1 r
       unfolding refusal1
       refused-ssid fits is-ssid = simp (← is-oas, ne-eqb _ _ listed, ← is-sid, le-ltb _ _ fits, ← is-ssid)
-
-pub record Accepted (r : Registers) : Type 0 where
-  pub oas-listed : oas r < 7
-  pub sid-size : sidSize r ≤ 32
-  pub ssid-size : ssidSize r ≤ 20
-
-pub accepted : (r : Registers) → refusal1 r ≡ false → Accepted r
-unfolding refusal1
-accepted r not = go (eqb (oas r) 7) refl (ltb 32 (sidSize r)) refl (ltb 20 (ssidSize r)) refl not
-  where
-    go :
-        (a : Bool) → eqb (oas r) 7 ≡ a → (b : Bool) → ltb 32 (sidSize r) ≡ b → (c : Bool) → ltb 20 (ssidSize r) ≡ c
-        → a || (b || c) ≡ false → Accepted r
-    go true e b f c g is = not-both is
-    go false e true f c g is = not-both is
-    go false e false f true g is = not-both is
-    go false e false f false g is =
-        let seven = eqb-false (oas r) 7 e in
-        record {
-          oas-listed = omega arith;
-          sid-size = ltb-false 32 (sidSize r) f;
-          ssid-size = ltb-false 20 (ssidSize r) g;
-        }

@@ -1,5 +1,4 @@
 -- The registers as words, and back.
---     words-count        how many words there are
 --     words-back         the registers from their own words
 --     narrow-all         words of 32 bits, by a test of each
 -- Assumes: nothing.
@@ -8,15 +7,12 @@ use mathlib.Core.Path.{_≡_, refl}
 use mathlib.Core.Bool.{true}
 use borrow.Author.Tests.{ltb-true}
 use lib.Dec.{ltb}
-use lib.ListN.{length, getD}
+use lib.ListN.{getD}
 use Rattle.number_laws.proofs.Tables.{every, at-each}
-use Rattle.registers.specs.Words.{registerWords, registersFrom, wordsOfRegisters}
+use Rattle.registers.specs.Words.{registersFrom, wordsOfRegisters}
 use Rattle.registers.specs.declared.Registers.{Registers}
 
 module _ (r : Registers) where
-  pub words-count : length (wordsOfRegisters r) ≡ registerWords
-  words-count = refl
-
   pub words-back : registersFrom (wordsOfRegisters r) (r .«strtab_base») ≡ r
   words-back = refl
 

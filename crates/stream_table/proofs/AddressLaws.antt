@@ -2,7 +2,7 @@
 --     off-quiet, off-bypass          step 1
 --     linear-level, linear-format    step 3: which fields make the table linear
 --     linear-is                      step 3: the STE's address
---     split-listed, split-other      step 4: SPLIT
+--     split-six, split-eight, split-ten, split-other     step 4: SPLIT
 --     l1std-is                       step 4: the L1STD's address
 --     held-none, held-past, held-wide, held-some    step 5: Span
 --     leaf-invalid, leaf-past, leaf-ste                 steps 5 and 6
