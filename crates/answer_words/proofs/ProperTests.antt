@@ -3,22 +3,18 @@
 --     event-is, event-other, case-is, case-other    a number that 01 lists, and one that it does not
 --     translate-tested .. unserved-tested               an outcome, by its cases
 --     address-past, length-last                         where a piece ends
---     left-whole, left-less, left-past, left-none       the loop over the pieces: at its start, a turn, its two ends
 --     list-long, list-is                                a list: too long; else what its pieces say
 -- Assumes: nothing.
-use Prim.Native.Nat.{ℕ, suc, _+_, _-_, _^_, _≤_, _<_}
+use Prim.Native.Nat.{ℕ, _+_, _-_, _^_, _≤_, _<_}
 use native.Mathlib.Omega.{arith}
 use mathlib.Core.Path.{_≡_, refl, sym, ap, _∙_}
-use mathlib.Core.Bool.{Bool, true, false, not, _&&_}
-use mathlib.Core.List.{List}
-use borrow.Author.Tests.{ne-eqb, lt-ltb, le-ltb, le-leb, lt-leb, leb-true, leb-false, not-true, not-false}
+use mathlib.Core.Bool.{Bool, true, false, _&&_}
+use borrow.Author.Tests.{ne-eqb, lt-ltb, le-ltb, le-leb, lt-leb, leb-true, leb-false}
 use lib.Dec.{leb, ltb}
-use lib.ListN.{getD}
-use Rattle.memory_image.specs.declared.Piece.{Piece}
+use Rattle.placed.specs.From.{allFrom}
 use Rattle.memory_image.specs.Extent.{addressTop}
 use Rattle.answers.specs.Layout.{piecesMost}
-use Rattle.answers.specs.Pieces.{nothing}
-use Rattle.answers.specs.Proper.{properFields, listedEvent, listedCase, properOutcome, endsBelow, endBelowFrom, properPieces}
+use Rattle.answers.specs.Proper.{properFields, listedEvent, listedCase, properOutcome, endsBelowAt, properPieces}
 use Rattle.answers.specs.declared.Outcome.{Outcome}
 use Rattle.answers.specs.declared.Outcome.the-variants.{Translate, Bypass, BypassGlobal, Abort, Quiet, Unserved}
 use Rattle.answers.specs.declared.Translation.{Translation}
@@ -102,33 +98,11 @@ module _ (address length : ℕ) where
       go true is = let short = leb-true length (addressTop - address) is in sym (le-leb (address + length) (addressTop) (omega arith))
       go false is = let long = leb-false length (addressTop - address) is in sym (lt-leb (address + length) (addressTop) (omega arith))
 
--- the loop over the pieces: what is left says what the whole says
-pub record Left (pieces : List Piece) (n i : ℕ) : Type 0 where
-  pub inside : i ≤ n
-  pub same : endBelowFrom pieces n 0 ≡ endBelowFrom pieces (n - i) i
-
-module _ (pieces : List Piece) (n : ℕ) where
-  pub left-whole : Left pieces n 0
-  left-whole = let all : n - 0 ≡ n = omega arith in record { inside = omega arith; same = rw all }
-
-  module _ {i : ℕ} (left : Left pieces n i) (more : i < n) {test : Bool} (tested : test ≡ endsBelow (getD pieces i nothing)) where
-    one : endBelowFrom pieces n 0 ≡ (test && endBelowFrom pieces (n - (i + 1)) (i + 1))
-    one = let fuel : n - i ≡ suc (n - (i + 1)) = omega arith in left .same ∙ rw (fuel, tested)
-
-    pub left-less : not test ≡ false → Left pieces n (i + 1)
-    left-less fits = record { inside = omega arith; same = one ∙ rw (not-false test fits) }
-
-    pub left-past : not test ≡ true → endBelowFrom pieces n 0 ≡ false
-    left-past past = one ∙ rw (not-true test past)
-
-  pub left-none : {i : ℕ} → Left pieces n i → n ≤ i → endBelowFrom pieces n 0 ≡ true
-  left-none {i} left end = let fuel : n - i ≡ 0 = omega arith in left .same ∙ rw fuel
-
 module _ (l : Pieces) where
   pub list-long : piecesMost < l .count → false ≡ properPieces l
   unfolding properPieces
   list-long many = simp (lt-leb _ _ many)
 
-  pub list-is : l .count ≤ piecesMost → {test : Bool} → endBelowFrom (l .piece) (l .count) 0 ≡ test → test ≡ properPieces l
+  pub list-is : l .count ≤ piecesMost → {test : Bool} → test ≡ allFrom (endsBelowAt (l .piece)) (l .count) 0 → test ≡ properPieces l
   unfolding properPieces
-  list-is few is = simp (le-leb _ _ few) (sym is)
+  list-is few is = simp (le-leb _ _ few) is

@@ -3,12 +3,13 @@
 --     properPieces       at most four pieces, and none that is counted ends past 2^52
 --     ProperAnswer       an outcome and a list that are proper, in an array of four: what a book may keep
 -- Assumes: nothing.
-use Prim.Native.Nat.{ℕ, zero, suc, _+_}
+use Prim.Native.Nat.{ℕ, _+_}
 use mathlib.Core.Path.{_≡_}
 use mathlib.Core.Bool.{Bool, true, _&&_, _||_}
 use mathlib.Core.List.{List}
 use lib.Dec.{eqb, leb}
 use lib.ListN.{length, getD}
+use Rattle.placed.specs.From.{allFrom}
 use Rattle.memory_image.specs.Extent.{addressTop}
 use Rattle.memory_image.specs.declared.Piece.{Piece}
 use Rattle.answers.specs.Outcome.{cBadStreamId, fSteFetch, cBadSte, fStreamDisabled, cBadSubstreamId, fCdFetch, cBadCd, stage2, vmsa32, streamWorld}
@@ -48,13 +49,12 @@ properOutcome (Unserved n) = listedCase n
 abbrev pub endsBelow : Piece → Bool
 endsBelow p = leb (p .address + p .length) addressTop
 
--- so many pieces do, from a place of the array on
-abbrev pub endBelowFrom : List Piece → ℕ → ℕ → Bool
-endBelowFrom pieces zero i = true
-endBelowFrom pieces (suc m) i = endsBelow (getD pieces i nothing) && endBelowFrom pieces m (i + 1)
+-- the piece at a place of the array does
+abbrev pub endsBelowAt : List Piece → ℕ → Bool
+endsBelowAt pieces i = endsBelow (getD pieces i nothing)
 
 unfoldable pub properPieces : Pieces → Bool
-properPieces l = leb (l .count) piecesMost && endBelowFrom (l .piece) (l .count) 0
+properPieces l = leb (l .count) piecesMost && allFrom (endsBelowAt (l .piece)) (l .count) 0
 
 pub record ProperAnswer (outcome : Outcome) (l : Pieces) : Type 0 where
   pub outcome-proper : properOutcome outcome ≡ true
