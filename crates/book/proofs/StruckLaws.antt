@@ -7,18 +7,24 @@ use Prim.Native.Nat.{ℕ, zero, suc, _+_, _-_, _≤_, _<_}
 use native.Mathlib.Omega.{arith}
 use mathlib.Core.Path.{_≡_, refl, sym, ap, _∙_}
 use mathlib.Core.Bool.{Bool, true, false}
-use mathlib.Core.List.{List}
+use mathlib.Core.List.{List, [], _∷_}
 use borrow.Author.Tests.{eqb-true, eqb-false}
 use lib.Dec.{eqb}
 use lib.ListN.{length, getD, set, length-set}
-use lib.Seq.{getD-set-same, getD-set-other}
+use lib.Seq.{getD-set-other}
 use Rattle.bit_fields.specs.Choice.{if_then_else_}
 use Rattle.ids.specs.Packing.{unpacked}
-use Rattle.book_words.specs.Layout.{slotsMost, bookWords, keysFrom, keyAt, blockAt}
+use Rattle.book_words.specs.Layout.{slotsMost, keysFrom, keyAt, blockAt}
 use Rattle.book_words.proofs.KeptLaws.{block-same}
 use Rattle.book_words.proofs.WellLaws.{Held, held-to, held-from, Well}
 use Rattle.book_words.proofs.KeepsLaws.{header-same}
 use Rattle.book.specs.Book.{touched, strike, struckFrom}
+
+-- a word set to 0 is 0, past the end too
+set-zero : (ws : List ℕ) (k : ℕ) → getD (set ws k 0) k 0 ≡ 0
+set-zero [] k = refl
+set-zero (x ∷ ws) zero = refl
+set-zero (x ∷ ws) (suc k) = set-zero ws k
 
 module _ (start size : ℕ) where
   strike-length : (ws : List ℕ) (i : ℕ) → length (strike ws start size i) ≡ length ws
@@ -47,12 +53,12 @@ module _ (start size : ℕ) where
   unfolding touched
   touched-same ws ws′ i key block = rw (key, block)
 
-  strike-at : (ws : List ℕ) (i : ℕ) → keysFrom + i < length ws → keyAt (strike ws start size i) i ≡ (if touched ws start size i then 0 else keyAt ws i)
+  strike-at : (ws : List ℕ) (i : ℕ) → keyAt (strike ws start size i) i ≡ (if touched ws start size i then 0 else keyAt ws i)
   unfolding strike
-  strike-at ws i room = go (touched ws start size i)
+  strike-at ws i = go (touched ws start size i)
     where
       go : (t : Bool) → getD (if t then set ws (keysFrom + i) 0 else ws) (keysFrom + i) 0 ≡ (if t then 0 else keyAt ws i)
-      go true = getD-set-same ws (keysFrom + i) 0 0 room
+      go true = set-zero ws (keysFrom + i)
       go false = refl
 
   pub struck-length : (m : ℕ) (ws : List ℕ) (i : ℕ) → length (struckFrom ws start size m i) ≡ length ws
@@ -71,12 +77,12 @@ module _ (start size : ℕ) where
       ∙ strike-else ws i x (other i (omega arith) (omega arith))
 
   pub struck-key :
-      (m : ℕ) (ws : List ℕ) (i j : ℕ) → length ws ≡ bookWords → i + m ≤ slotsMost → i ≤ j → j < i + m
+      (m : ℕ) (ws : List ℕ) (i j : ℕ) → i + m ≤ slotsMost → i ≤ j → j < i + m
       → keyAt (struckFrom ws start size m i) j ≡ (if touched ws start size j then 0 else keyAt ws j)
   unfolding struckFrom
-  struck-key zero ws i j full room from to = absurd (omega arith)
-  struck-key (suc m) ws i j full room from to =
-      go (eqb i j) refl (struck-key m (strike ws start size i) (i + 1) j (strike-length ws i ∙ full) (omega arith))
+  struck-key zero ws i j room from to = absurd (omega arith)
+  struck-key (suc m) ws i j room from to =
+      go (eqb i j) refl (struck-key m (strike ws start size i) (i + 1) j (omega arith))
     where
       next : List ℕ
       next = strike ws start size i
@@ -89,7 +95,7 @@ module _ (start size : ℕ) where
       go true e more =
           let same : i ≡ j = eqb-true i j e in
           rw (← same)
-          (struck-else m next (i + 1) (keysFrom + i) (λ k low high is. omega arith) ∙ strike-at ws i (omega arith))
+          (struck-else m next (i + 1) (keysFrom + i) (λ k low high is. omega arith) ∙ strike-at ws i)
       go false e more =
           let other : i ≡ j → ⊥ = eqb-false i j e in
           let key : keyAt next j ≡ keyAt ws j = strike-else ws i (keysFrom + j) (λ is. other (omega arith)) in
@@ -97,7 +103,7 @@ module _ (start size : ℕ) where
           more (omega arith) (omega arith) ∙ rw (touch, key)
 
 -- a notice taken
-module _ (ws : List ℕ) (start size : ℕ) (full : length ws ≡ bookWords) (well : Well ws) where
+module _ (ws : List ℕ) (start size : ℕ) where
   after : List ℕ
   after = struckFrom ws start size slotsMost 0
 
@@ -115,7 +121,7 @@ module _ (ws : List ℕ) (start size : ℕ) (full : length ws ≡ bookWords) (we
   struck-left i small held = go (touched ws start size i) refl
     where
       is : keyAt (struckFrom ws start size slotsMost 0) i ≡ (if touched ws start size i then 0 else keyAt ws i)
-      is = struck-key start size slotsMost ws 0 i full (omega arith) (omega arith) (omega arith)
+      is = struck-key start size slotsMost ws 0 i (omega arith) (omega arith) (omega arith)
 
       go :
           (t : Bool) → touched ws start size i ≡ t
@@ -123,9 +129,9 @@ module _ (ws : List ℕ) (start size : ℕ) (full : length ws ≡ bookWords) (we
       go true e = absurd (held (is ∙ rw e))
       go false e = (e, is ∙ rw e)
 
-  pub struck-well : Well (struckFrom ws start size slotsMost 0)
+  pub struck-well : Well ws → Well (struckFrom ws start size slotsMost 0)
   unfolding after
-  struck-well = header-same ws after header well (λ i small. held-from after i small (slot i small))
+  struck-well well = header-same ws after header well (λ i small. held-from after i small (slot i small))
     where
       slot : (i : ℕ) → i < slotsMost → (keyAt after i ≡ 0 → ⊥) → Held after i
       slot i small held =

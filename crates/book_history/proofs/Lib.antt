@@ -1,4 +1,7 @@
--- The claims of specs/Claims.antt, and the laws that they rest on.
+-- x
+pub mod Demand1
+pub mod Demand2
+pub mod AskedLaws
 pub mod HistoryLaws
 pub mod Claims
-pub mod Uses
+pub mod Demand3

@@ -1,119 +1,77 @@
--- What is claimed of the book beyond the contracts: demand 3. proofs/Claims.antt proves each under its own name.
---     NeverStale        after any history, while no edit lacks its notice, an ask gives what a new lookup in today's memory gives
---     StillGood         with any edits unannounced, a held answer whose list shares no address with them is what a new lookup gives
---     NeverMalformed    after an accepted opening no history leads to refusal 7
---     StrikesExactly    a notice empties exactly the slots that it touches, and every other word is as it was
---     SharesMeans       a piece and a notice share an address exactly if there is one in both
---     LowestEmpty       a new answer goes in the lowest empty slot
---     KeptChangesNothing, FullChangesNothing, RefusedChangesNothing     asks that leave every word
---     StartsEmpty       all slots are empty at opening
+-- What is claimed of the book beside the sentences of demand 3. proofs/Claims.antt proves each under its own name.
+--     StillGood             with any edits unnoticed, a held answer whose list shares no address with them is what a new lookup gives
+--     NeverMalformed        after an accepted opening no history leads to refusal 7
+--     HeaderStays           the words have the registers and the extent that the book was last opened with
+--     StartsEmpty           all slots are empty at opening
+--     SharesMeans           a piece and a notice share an address exactly if there is one in both
+--     OnlyRefusedForRoom    after an accepted opening and any history, the report is refused only where its text doesn't fit
 --     OneOpening, OneAsk, OneNotice     any two results that a promise allows for one input are equal, and so are the words afterwards
 -- Assumes: nothing.
-use Prim.Native.Nat.{ℕ, _+_, _-_, _^_, _≤_, _<_}
+use Prim.Native.Nat.{ℕ, _+_, _-_, _≤_, _<_}
 use mathlib.Core.Path.{_≡_}
-use mathlib.Core.Bool.{true, false}
+use mathlib.Core.Bool.{Bool, true, false}
 use mathlib.Core.List.{List}
-use lib.ListN.{getD, length}
+use lib.Dec.{ltb}
+use lib.ListN.{length}
 use Rattle.bit_fields.specs.Choice.{if_then_else_}
-use Rattle.ids.specs.Ids.{refusal3}
 use Rattle.ids.specs.Packing.{unpacked}
 use Rattle.ids.specs.declared.Request.{Request}
 use Rattle.ids.specs.declared.Unpacked.the-variants.{Is}
 use Rattle.registers.specs.declared.Registers.{Registers}
 use Rattle.memory_image.specs.Extent.{Extent}
 use Rattle.memory_image.specs.declared.Piece.{Piece}
+use Rattle.answers.specs.Pieces.{EachPiece}
+use Rattle.answers.specs.declared.Pieces.{Pieces}
 use Rattle.answer_words.specs.AnswerWords.{outcomeOf, listOf}
 use Rattle.lookup.specs.Lookup.{lookedUp}
-use Rattle.lookup.specs.declared.Looked.{Looked}
-use Rattle.lookup.specs.declared.Answer.{Answer}
 use Rattle.lookup.specs.declared.Answer.the-variants as looked
-use Rattle.book_words.specs.Layout.{slotsMost, keysFrom, slotsOf, keyAt, blockAt, openedWith}
+use Rattle.book_words.specs.Layout.{slotsMost, registersOf, extentHeld, keyAt, blockAt}
 use Rattle.book_words.specs.Malformed.{refusal7}
-use Rattle.book.specs.Book.{Opened, Asks, Noticed, slotOf, emptySlot, askResult, askBook, newLookup, shares, touched, struckFrom}
-use Rattle.book_history.specs.History.{State, Step, run, Clean, Began}
+use Rattle.book.specs.Book.{Opened, Asks, Noticed, shares}
 use Rattle.book.specs.declared.Asked.{Asked}
 use Rattle.book.specs.declared.Said.{Said}
-use Rattle.book.specs.declared.Reply.{Reply}
-use Rattle.book.specs.declared.Reply.the-variants.{Refused, KeptBefore, NewlyKept, NotKept}
+use Rattle.book.specs.declared.Said.the-variants.{Done}
+use Rattle.report.specs.Report.{Reported, reportText}
+use Rattle.report.specs.declared.Written.{Written}
+use Rattle.report.specs.declared.Written.the-variants.{Refused, Length}
+use Rattle.book_history.specs.History.{State, today, Begun}
+use Rattle.book_history.specs.Demand3.{Shared}
 
--- an ask's answer and list, whether it was kept or not, as a lookup gives them
-abbrev pub answerIn : Reply → Answer
-answerIn (Refused n) = looked.Refused n
-answerIn (KeptBefore outcome) = looked.Is outcome
-answerIn (NewlyKept outcome) = looked.Is outcome
-answerIn (NotKept outcome) = looked.Is outcome
+-- no address of a list is unnoticed
+abbrev pub Clean : (ℕ → Bool) → Pieces → Type 0
+Clean unnoticed l = EachPiece (λ p. (a : ℕ) → p .address ≤ a → a < p .address + p .length → unnoticed a ≡ false) l
 
-abbrev pub lookedIn : Asked → Looked
-lookedIn asked = record { answer = answerIn (asked .reply); list = asked .list }
-
--- an ask after a history
-abbrev pub askedAfter : ℕ → State → Request → Asked
-askedAfter base s request = askResult (s .words) base (length (s .memory)) request (newLookup (s .words) base (s .memory) request)
-
-abbrev pub NeverStale : Type 0
-NeverStale =
-    (r : Registers) (base : ℕ) (s : State) → Began r base s → (ts : List Step)
-    → ((a : ℕ) → run base s ts .dirty a ≡ false)
-    → (request : Request) → request .stream .number < 2 ^ 32 → refusal3 request ≡ false
-    → lookedIn (askedAfter base (run base s ts) request) ≡ lookedUp r base (run base s ts .memory) request
-
--- every held answer whose list no unannounced edit shares an address with is what a new lookup gives
-abbrev pub FreshIn : Registers → ℕ → State → Type 0
-FreshIn r base s =
-    (i : ℕ) → i < slotsMost → (keyAt (s .words) i ≡ 0 → ⊥) → Clean (s .dirty) (listOf (blockAt (s .words) i))
+-- every held answer whose list no unnoticed edit shares an address with is what a new lookup in today's memory gives
+abbrev pub FreshIn : State → Type 0
+FreshIn s =
+    (i : ℕ) → i < slotsMost → (keyAt (s .words) i ≡ 0 → ⊥) → Clean (s .unnoticed) (listOf (blockAt (s .words) i))
     → (request : Request) → unpacked (keyAt (s .words) i - 1) ≡ Is request
-    → lookedUp r base (s .memory) request
+    → lookedUp (s .registers) (s .extent .base) (today s) request
     ≡ record { answer = looked.Is (outcomeOf (blockAt (s .words) i)); list = listOf (blockAt (s .words) i) }
 
 abbrev pub StillGood : Type 0
-StillGood = (r : Registers) (base : ℕ) (s : State) → Began r base s → (ts : List Step) → FreshIn r base (run base s ts)
+StillGood = (s : State) → Begun s → FreshIn s
 
 abbrev pub NeverMalformed : Type 0
-NeverMalformed =
-    (r : Registers) (base : ℕ) (s : State) → Began r base s → (ts : List Step) → refusal7 (run base s ts .words) ≡ false
+NeverMalformed = (s : State) → Begun s → refusal7 (s .words) ≡ false
 
-pub record StrikesExactly (ws : List ℕ) (start size : ℕ) : Type 0 where
-  pub key :
-      (i : ℕ) → i < slotsMost
-      → keyAt (struckFrom ws start size slotsMost 0) i ≡ (if touched ws start size i then 0 else keyAt ws i)
-  pub rest :
-      (x : ℕ) → ((i : ℕ) → i < slotsMost → x ≡ keysFrom + i → ⊥) → getD (struckFrom ws start size slotsMost 0) x 0 ≡ getD ws x 0
+abbrev pub HeaderStays : Type 0
+HeaderStays = (s : State) → Begun s → (registersOf (s .words) ≡ s .registers) × (extentHeld (s .words) ≡ s .extent)
 
--- an address that is in a piece and in a notice
-pub record Shared (start size : ℕ) (p : Piece) : Type 0 where
-  pub address : ℕ
-  pub from : p .address ≤ address
-  pub to : address < p .address + p .length
-  pub noticed-from : start ≤ address
-  pub noticed-to : address < start + size
+abbrev pub StartsEmpty : Type 0
+StartsEmpty =
+    (r : Registers) (e : Extent) (slots : ℕ) (before after : List ℕ) → Opened r e slots before Done after
+    → (i : ℕ) → i < slotsMost → keyAt after i ≡ 0
 
 abbrev pub SharesMeans : Type 0
 SharesMeans =
     (start size : ℕ) (p : Piece)
     → (shares start size p ≡ true → Shared start size p) × (Shared start size p → shares start size p ≡ true)
 
-abbrev pub LowestEmpty : Type 0
-LowestEmpty =
-    (ws : List ℕ) → emptySlot ws < slotsOf ws
-    → (keyAt ws (emptySlot ws) ≡ 0) × ((i : ℕ) → i < emptySlot ws → keyAt ws i ≡ 0 → ⊥)
-
-abbrev pub KeptChangesNothing : Type 0
-KeptChangesNothing =
-    (ws : List ℕ) (base size : ℕ) (request : Request) (new : Looked) → slotOf ws request < slotsOf ws
-    → askBook ws base size request new ≡ ws
-
-abbrev pub FullChangesNothing : Type 0
-FullChangesNothing =
-    (ws : List ℕ) (base size : ℕ) (request : Request) (new : Looked) → slotsOf ws ≤ emptySlot ws
-    → askBook ws base size request new ≡ ws
-
-abbrev pub RefusedChangesNothing : Type 0
-RefusedChangesNothing =
-    (ws : List ℕ) (base size : ℕ) (request : Request) (new : Looked) (n : ℕ)
-    → askResult ws base size request new .reply ≡ Refused n → askBook ws base size request new ≡ ws
-
-abbrev pub StartsEmpty : Type 0
-StartsEmpty = (r : Registers) (e : Extent) (slots i : ℕ) → i < slotsMost → keyAt (openedWith r e slots) i ≡ 0
+abbrev pub OnlyRefusedForRoom : Type 0
+OnlyRefusedForRoom =
+    (s : State) → Begun s → (before : List ℕ) (says : Written) (after : List ℕ) → Reported (s .words) before says after
+    → says ≡ (if ltb (length before) (length (reportText (s .words))) then Refused 8 else Length (length (reportText (s .words))))
 
 abbrev pub OneOpening : Type 0
 OneOpening =

@@ -1,4 +1,6 @@
--- Histories of a book, what is claimed of them, and what follows.
+-- x
 pub mod History
+pub mod Demand1
+pub mod Demand2
+pub mod Demand3
 pub mod Claims
-pub mod Uses

@@ -10,11 +10,10 @@ use lib.Dec.{ltb}
 use lib.ListN.{getD, length}
 use Rattle.bit_fields.proofs.ChoiceLaws.{either, by-test}
 use Rattle.book_words.specs.Malformed.{refusal7}
-use Rattle.book_history.proofs.Claims.{never-malformed}
 use Rattle.placed.specs.Placed.{placed}
 use Rattle.placed.proofs.PlacedLaws.{placed-at, placed-above}
 use Rattle.report.specs.Report.{Reported, ifWritten, reportSays, reportText}
-use Rattle.report.specs.Claims.{OneReport, LaterBytesStay, TextIsThere, OnlyRefusedForRoom}
+use Rattle.report.specs.Claims.{OneReport, LaterBytesStay, TextIsThere}
 use Rattle.report.specs.declared.Written.{Written}
 use Rattle.report.specs.declared.Written.the-variants.{Length}
 
@@ -51,7 +50,3 @@ text-is-there ws before after n x said inside =
     let l = w .long in
     let p = placed-at before 0 (reportText ws) (w .fits) x (omega arith) in
     ap (λ (q : List ℕ). getD q x 0) (w .holds) ∙ rw (zero-add x) at p
-
-pub only-refused-for-room : OnlyRefusedForRoom
-unfolding reportSays
-only-refused-for-room r base s began ts room = simp (never-malformed r base s began ts)

@@ -2,19 +2,14 @@
 --     OneReport         any two results that the promise allows for one input are equal, and so are the buffers
 --     LaterBytesStay    the bytes after the text are as they were
 --     TextIsThere       the first bytes are the text
---     OnlyRefusedForRoom     after an accepted opening and any history, the report is refused only where its text doesn't fit
 -- Assumes: nothing.
 use Prim.Native.Nat.{ℕ, _≤_, _<_}
 use mathlib.Core.Path.{_≡_}
 use mathlib.Core.List.{List}
-use lib.Dec.{ltb}
-use lib.ListN.{getD, length}
-use Rattle.bit_fields.specs.Choice.{if_then_else_}
-use Rattle.registers.specs.declared.Registers.{Registers}
-use Rattle.book_history.specs.History.{State, Step, run, Began}
-use Rattle.report.specs.Report.{Reported, reportSays, reportText}
+use lib.ListN.{getD}
+use Rattle.report.specs.Report.{Reported, reportText}
 use Rattle.report.specs.declared.Written.{Written}
-use Rattle.report.specs.declared.Written.the-variants.{Refused, Length}
+use Rattle.report.specs.declared.Written.the-variants.{Length}
 
 abbrev pub OneReport : Type 0
 OneReport =
@@ -29,9 +24,3 @@ abbrev pub TextIsThere : Type 0
 TextIsThere =
     (ws before after : List ℕ) (n x : ℕ) → Reported ws before (Length n) after → x < n
     → getD after x 0 ≡ getD (reportText ws) x 0
-
-abbrev pub OnlyRefusedForRoom : Type 0
-OnlyRefusedForRoom =
-    (r : Registers) (base : ℕ) (s : State) → Began r base s → (ts : List Step) (room : ℕ)
-    → reportSays (run base s ts .words) room
-    ≡ (if ltb room (length (reportText (run base s ts .words))) then Refused 8 else Length (length (reportText (run base s ts .words))))
