@@ -20,7 +20,8 @@ use Rattle.memory_image.specs.declared.Fetched.{Fetched}
 use Rattle.memory_image.specs.declared.Fetched.the-variants.{At, Outside}
 use Rattle.memory_image.proofs.ExtentLaws.{outside}
 use Rattle.memory_image.proofs.DescriptorLaws.{had-at, read-word, read-words}
-use Rattle.memory_image.proofs.RunLaws.{run-done, run-had, run-fault}
+use Rattle.memory_image.proofs.Claims.{fault-not-listed, fetched-is-listed}
+use Rattle.memory_image.proofs.RunLaws.{run-done}
 use Rattle.answers.specs.Layout.{piecesMost, answerWords}
 use Rattle.answers.specs.Pieces.{piecesOf, onlyList, pushPiece}
 use Rattle.answers.specs.Walk.{RanIn, runIn, walked, Walks}
@@ -97,15 +98,15 @@ module _ {A : Type 0} (e : Extent) (limit : ℕ) (f : ℕ → ℕ) where
           → Grows (rest (wordsAt f (address - e .base) n)) (l ++ (descriptor address n ∷ [])) → Grows fault l
           → Grows (fetch address n fault rest) l
       go true test on out room =
-          let room′ = rw (run-had e limit f address n fault rest test) at room in
+          let room′ = rw (fetched-is-listed A e limit f address n fault rest test) at room in
           rw (
             in-had e limit f address n fault rest (onlyList (piecesOf l)) test,
-            run-had e limit f address n fault rest test,
+            fetched-is-listed A e limit f address n fault rest test,
             only-more l (descriptor address n) (omega arith),
           ) (on (rw length-append (omega arith)) ∙ rw append-assoc)
       go false test on out room =
-          rw (in-fault e limit f address n fault rest (onlyList (piecesOf l)) test, run-fault e limit f address n fault rest test)
-          (out (rw (run-fault e limit f address n fault rest test) at room))
+          rw (in-fault e limit f address n fault rest (onlyList (piecesOf l)) test, fault-not-listed A e limit f address n fault rest test)
+          (out (rw (fault-not-listed A e limit f address n fault rest test) at room))
 
 -- the same of a function that walks
 module _ (base : ℕ) (memory : List ℕ) {A : Type 0} where

@@ -17,13 +17,16 @@ use Rattle.memory_image.specs.Extent.{Extent, extentOf, refusal2, addressTop, f
 use Rattle.memory_image.specs.Rule.{run, andThen, Agree, Lies}
 use Rattle.memory_image.specs.Words.{bytes, word}
 use Rattle.memory_image.specs.declared.Piece.{Piece}
-use Rattle.memory_image.proofs.RunLaws.{depends, run-lies, run-few, run-every, run-gives, run-done, run-then}
+use Rattle.memory_image.proofs.Claims.{depends-on-list as rule-depends, listed-lies as rule-lies, listed-few as rule-few, then-gives-and-lists}
+use Rattle.memory_image.proofs.RunLaws.{run-every, run-gives, run-done}
 use Rattle.answers.specs.Layout.{piecesMost}
 use Rattle.answers.specs.Pieces.{none, piecesOf, EachPiece}
 use Rattle.answers.specs.Proper.{ProperAnswer}
+use Rattle.answers.specs.declared.Outcome.{Outcome}
 use Rattle.answers.proofs.PiecesLaws.{each-pieces, pieces-each, pieces-none, pieces-length}
 use Rattle.answers.proofs.ProperLaws.{Below, proper-pieces}
 use Rattle.stream_table.specs.StreamTable.{streamRule, isLinear, linearAt}
+use Rattle.stream_table.specs.declared.Found.{Found}
 use Rattle.stream_entry.specs.StreamEntry.{steRule, notThere}
 use Rattle.stream_table.proofs.StreamLaws.{stream-unread}
 use Rattle.lookup.specs.Claims.{DependsOnList, ListedLies, DescriptorLong, ListedFew, RefusedExactly, OneAnswer, OnePart, NothingRead, AnswersProper, NoneIsNotZero}
@@ -61,7 +64,7 @@ listed-lies r base memory request =
     by-cases (λ l. EachPiece (Lies (extentOf base memory) (2 ^ oasSize r)) (l .list)) r base memory request
     (λ n. nothing-each (Lies (extentOf base memory) (2 ^ oasSize r)))
     (each-pieces _ (ruled r base memory request .list) (ruled-few r base memory request)
-    (run-lies (extentOf base memory) (2 ^ oasSize r) (bytes memory) (lookupRule r request)))
+    (rule-lies Outcome (extentOf base memory) (2 ^ oasSize r) (bytes memory) (lookupRule r request)))
 
 pub listed-few : ListedFew
 unfolding ruled piecesOf none
@@ -89,10 +92,10 @@ depends-on-list r base memory other request same agree =
         Depends (answered (run (extentOf base memory) (2 ^ oasSize r) (bytes memory) (lookupRule r request)))
         (answered (run (extentOf base memory) (2 ^ oasSize r) (bytes other) (lookupRule r request)))
     walked agree =
-        let fetched = run-few (extentOf base memory) (2 ^ oasSize r) (bytes memory) 4 (lookupRule r request) (lookup-few r request) in
+        let fetched = rule-few Outcome (extentOf base memory) (2 ^ oasSize r) (bytes memory) 4 (lookupRule r request) (lookup-few r request) in
         let list = run (extentOf base memory) (2 ^ oasSize r) (bytes memory) (lookupRule r request) .list in
         let few : length list ≤ piecesMost = omega arith in
-        rw (depends (extentOf base memory) (2 ^ oasSize r) (bytes memory) (bytes other) (lookupRule r request) (pieces-each _ list few agree))
+        rw (rule-depends Outcome (extentOf base memory) (2 ^ oasSize r) (bytes memory) (bytes other) (lookupRule r request) (pieces-each _ list few agree))
 
 pub one-answer : OneAnswer
 one-answer r base memory request x y first second = first ∙ sym second
@@ -106,7 +109,7 @@ unfolding ruled lookupRule fromSte
 nothing-read r base memory request unread =
     by-cases (λ l. l .list ≡ none) r base memory request (λ n. refl)
     (let ended = stream-unread r (request .stream .number) unread in
-    rw (run-then, ended .1, run-done, run-done, pieces-none))
+    rw (then-gives-and-lists Found Outcome _ _ _ (fromSte r (request .substream)) (streamRule r (request .stream .number)) .1, ended .1, run-done, run-done, pieces-none))
 
 -- what the rules give is proper: each listed piece ends at or below 2^(OAS size), which is at most 2^52
 module _ (r : Registers) (base : ℕ) (memory : List ℕ) (request : Request) where
@@ -130,7 +133,7 @@ module _ (r : Registers) (base : ℕ) (memory : List ℕ) (request : Request) wh
 
       ends : EachPiece Below (piecesOf l)
       ends i counted =
-          let lies = each-pieces (Lies e (2 ^ oasSize r)) l few (run-lies e (2 ^ oasSize r) (bytes memory) (lookupRule r request)) i counted in
+          let lies = each-pieces (Lies e (2 ^ oasSize r)) l few (rule-lies Outcome e (2 ^ oasSize r) (bytes memory) (lookupRule r request)) i counted in
           let top : 2 ^ oasSize r ≤ addressTop = pow-mono (oas-at-most r) in
           omega (arith, lies .below)
 

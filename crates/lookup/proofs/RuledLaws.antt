@@ -29,7 +29,8 @@ use Rattle.registers.proofs.SizesLaws.{oas-at-most}
 use Rattle.memory_image.specs.Extent.{extentOf, endOf, below, refusal2}
 use Rattle.memory_image.specs.Words.{bytes}
 use Rattle.memory_image.specs.Rule.{Fetches, Every, Gives, run}
-use Rattle.memory_image.proofs.RunLaws.{fetches-then, run-few, every-then, gives-then}
+use Rattle.memory_image.proofs.Claims.{listed-few}
+use Rattle.memory_image.proofs.RunLaws.{fetches-then, every-then, gives-then}
 use Rattle.memory_image.proofs.BelowLaws.{run-below}
 use Rattle.answers.specs.Layout.{piecesMost, answerWords}
 use Rattle.answers.specs.Pieces.{none, piecesOf}
@@ -146,7 +147,7 @@ module _ (r : Registers) (base : ℕ) (memory : List ℕ) (request : Request) wh
   pub ruled-few : length (ruled r base memory request .list) ≤ piecesMost
   unfolding ruled
   ruled-few =
-      let few = run-few (extentOf base memory) (2 ^ oasSize r) (bytes memory) 4 (lookupRule r request) (lookup-few r request) in
+      let few = listed-few Outcome (extentOf base memory) (2 ^ oasSize r) (bytes memory) 4 (lookupRule r request) (lookup-few r request) in
       omega arith
 
   -- on the memory below the limit the rules give the same

@@ -13,7 +13,7 @@ pub fault-not-listed : (A : Type 0) → FaultNotListed A
 fault-not-listed A = run-fault
 
 pub fetched-is-listed : (A : Type 0) → FetchedIsListed A
-fetched-is-listed A e limit f address n fault rest test = rw (run-had e limit f address n fault rest test)
+fetched-is-listed A = run-had
 
 pub then-gives-and-lists : (A B : Type 0) → ThenGivesAndLists A B
 then-gives-and-lists A B e limit f next rule =

@@ -3,17 +3,17 @@
 --     DependsOnList       two memories of one extent that agree on the listed bytes give the same answer and list
 --     ListedLies          each listed piece lies in the memory and ends at or below the limit
 --     FaultNotListed      a fetch that fails is not in the list: what is given and listed is what its fault branch gives and lists
---     FetchedIsListed     a fetch that succeeds stands in the list, in front of all that is fetched after it
+--     FetchedIsListed     a fetch that succeeds stands in the list, in front of all that is fetched after it, and the rule goes on with its words
 --     ThenGivesAndLists   one rule and then another: the second one's answer, and both lists in order
 --     ListedFew           a rule of at most so many fetches lists at most so many pieces
 -- Assumes: nothing.
 use Prim.Native.Nat.{ℕ, _-_, _*_, _≤_}
 use mathlib.Core.Path.{_≡_}
 use mathlib.Core.Bool.{true, false}
-use mathlib.Core.List.{_∷_, _++_}
+use mathlib.Core.List.{_++_}
 use lib.ListN.{length}
 use Rattle.memory_image.specs.Extent.{Extent, fetched}
-use Rattle.memory_image.specs.Rule.{Rule, fetch, descriptor, wordsAt, run, andThen, Fetches, Each, Lies, Agree}
+use Rattle.memory_image.specs.Rule.{Rule, fetch, descriptor, wordsAt, listed, run, andThen, Fetches, Each, Lies, Agree}
 
 abbrev pub DependsOnList : Type 0 → Type 0
 DependsOnList A =
@@ -33,8 +33,7 @@ abbrev pub FetchedIsListed : Type 0 → Type 0
 FetchedIsListed A =
     (e : Extent) (limit : ℕ) (f : ℕ → ℕ) (address n : ℕ) (fault : Rule A) (rest : (ℕ → ℕ) → Rule A)
     → fetched e limit address (8 * n) ≡ true
-    → run e limit f (fetch address n fault rest) .list
-    ≡ descriptor address n ∷ run e limit f (rest (wordsAt f (address - e .base) n)) .list
+    → run e limit f (fetch address n fault rest) ≡ listed (descriptor address n) (run e limit f (rest (wordsAt f (address - e .base) n)))
 
 abbrev pub ThenGivesAndLists : Type 0 → Type 0 → Type 0
 ThenGivesAndLists A B =
