@@ -68,8 +68,7 @@ module _ (start size : ℕ) where
     touched-to is =
         let two = both (not (eqb (keyAt ws i) 0)) _ is in
         let one = one-shares (listOf (blockAt ws i) .piece) (min (listOf (blockAt ws i) .count) piecesMost) 0 (two .1) in
-        let to = one .high in
-        (
+        let to = one .high in (
           eqb-false (keyAt ws i) 0 (not-true _ (two .0)),
           record { place = one .place; counted = omega arith; shared = shares-means start size _ .0 (one .shared) },
         )

@@ -5,7 +5,6 @@ use native.Mathlib.Omega.{arith}
 use mathlib.Core.Path.{_≡_, refl, sym, _∙_}
 use mathlib.Core.Bool.{Bool, true, false}
 use mathlib.Core.List.{List}
-use borrow.Author.Tests.{ltb-true}
 use mathlib.Core.Logic.{_⊎_, inl, inr}
 use lib.Dec.{ltb}
 use lib.ListN.{length}
@@ -38,23 +37,18 @@ use Rattle.book.specs.declared.Asked.{Asked}
 use Rattle.book.specs.declared.Reply.the-variants as reply
 use Rattle.book_words.proofs.WordsLaws.{same-extent}
 use Rattle.book_words.proofs.WellLaws.{well-to}
-use Rattle.report.specs.Report.{reportSays, reportText}
-use Rattle.report.specs.declared.Written.{Written}
-use Rattle.report.specs.declared.Written.the-variants as written
 use Rattle.llobatelh.specs.Calls.{noPart, partSays}
 use Rattle.llobatelh.specs.Claims.{
   PartLies,
   PartIsThatVery,
   LookupNumbers,
   AskNumbers,
-  ReportFits,
   OneLookup,
   OneOpening,
   OneAsk,
   OneNotice,
   OneReport,
 }
-use Rattle.report.proofs.LengthLaws.{report-short}
 
 pub part-lies : PartLies
 unfolding partSays
@@ -108,20 +102,6 @@ ask-numbers ws base memory request n =
     anew : (room : Bool) (outcome : Outcome) (list : Pieces) → Numbered (newly room (answer.Is outcome) list)
     anew true outcome list is = let z : _≡_ {A = ℕ} 0 1 = cc in absurd (omega arith)
     anew false outcome list is = let z : _≡_ {A = ℕ} 0 1 = cc in absurd (omega arith)
-
-pub report-fits : ReportFits
-unfolding reportSays
-report-fits ws room enough =
-    by-test Fits (refusal7 ws) (λ bad is. let same : _≡_ {A = ℕ} 7 8 = cc in omega arith)
-    (λ good. by-test Fits (ltb room (length (reportText ws)))
-    (λ over is.
-    let short = report-short ws (well-to ws good .few) in
-    let long = ltb-true room (length (reportText ws)) over in
-    omega arith)
-    (λ under is. let z : _≡_ {A = ℕ} 0 1 = cc in omega arith))
-  where
-    Fits : Written → Type 0
-    Fits says = says ≡ written.Refused 8 → ⊥
 
 -- each promise is equations
 pub one-lookup : OneLookup

@@ -3,7 +3,6 @@
 --     PartIsThatVery    it is where the part starts that `lookup::ste_part` hands back, and these are its bytes
 --     LookupNumbers     a lookup is refused with 1, 2 or 3, so that 0 says that it is answered
 --     AskNumbers        an ask is refused with 7, 6 or 3, so that 100, 101 and 102 say that it is answered
---     ReportFits        a report is never refused with 8 where its buffer has reportMost bytes: 2,084
 --     OneLookup, OneOpening, OneAsk, OneNotice, OneReport
 --                       any two results that a promise allows for one input are equal, and so is all that was lent
 -- Assumes: nothing.
@@ -22,9 +21,6 @@ use Rattle.lookup.specs.Part.{SteHanded, steAt}
 use Rattle.lookup.specs.declared.Answer.the-variants as answer
 use Rattle.lookup.specs.declared.Looked.{Looked}
 use Rattle.book.specs.declared.Reply.the-variants as reply
-use Rattle.report.specs.Length.{reportMost}
-use Rattle.report.specs.Report.{reportSays}
-use Rattle.report.specs.declared.Written.the-variants as written
 use Rattle.book.specs.Into.{asked, AsksBook}
 use Rattle.llobatelh.specs.Calls.{noPart, partSays, OpensBook, NoticesBook, ReportsBook}
 
@@ -48,9 +44,6 @@ abbrev pub AskNumbers : Type 0
 AskNumbers =
     (ws : List ℕ) (base : ℕ) (memory : List ℕ) (request : Request) (n : ℕ)
     → asked ws base memory request .reply ≡ reply.Refused n → (n ≡ 7) ⊎ ((n ≡ 6) ⊎ (n ≡ 3))
-
-abbrev pub ReportFits : Type 0
-ReportFits = (ws : List ℕ) (room : ℕ) → reportMost ≤ room → reportSays ws room ≡ written.Refused 8 → ⊥
 
 abbrev pub OneLookup : Type 0
 OneLookup =

@@ -5,17 +5,19 @@ use native.Mathlib.Omega.{arith}
 use native.Mathlib.Nat.{zero-add}
 use mathlib.Core.Path.{_≡_, sym, ap, _∙_}
 use mathlib.Core.List.{List}
-use borrow.Author.Tests.{ltb-false}
+use borrow.Author.Tests.{ltb-true, ltb-false}
 use lib.Dec.{ltb}
 use lib.ListN.{getD, length}
 use Rattle.bit_fields.proofs.ChoiceLaws.{either, by-test}
 use Rattle.book_words.specs.Malformed.{refusal7}
+use Rattle.book_words.proofs.WellLaws.{well-to}
 use Rattle.placed.specs.Placed.{placed}
 use Rattle.placed.proofs.PlacedLaws.{placed-at, placed-above}
 use Rattle.report.specs.Report.{Reported, ifWritten, reportSays, reportText}
-use Rattle.report.specs.Claims.{OneReport, LaterBytesStay, TextIsThere}
+use Rattle.report.specs.Claims.{OneReport, LaterBytesStay, TextIsThere, ReportFits}
 use Rattle.report.specs.declared.Written.{Written}
-use Rattle.report.specs.declared.Written.the-variants.{Length}
+use Rattle.report.specs.declared.Written.the-variants.{Refused, Length}
+use Rattle.report.proofs.LengthLaws.{report-short}
 
 pub one-report : OneReport
 one-report ws before x y after other a b = (a .result ∙ sym (b .result), a .buffer ∙ sym (b .buffer))
@@ -50,3 +52,17 @@ text-is-there ws before after n x said inside =
     let l = w .long in
     let p = placed-at before 0 (reportText ws) (w .fits) x (omega arith) in
     ap (λ (q : List ℕ). getD q x 0) (w .holds) ∙ rw (zero-add x) at p
+
+pub report-fits : ReportFits
+unfolding reportSays
+report-fits ws before after enough promise =
+    by-test Fits (refusal7 ws) (λ bad is. let same : _≡_ {A = ℕ} 7 8 = cc in omega arith)
+    (λ good. by-test Fits (ltb (length before) (length (reportText ws)))
+    (λ over is.
+    let short = report-short ws (well-to ws good .few) in
+    let long = ltb-true (length before) (length (reportText ws)) over in
+    omega arith)
+    (λ under is. let z : _≡_ {A = ℕ} 0 1 = cc in omega arith)) (promise .result)
+  where
+    Fits : Written → Type 0
+    Fits says = Refused 8 ≡ says → ⊥

@@ -2,14 +2,16 @@
 --     OneReport         any two results that the promise allows for one input are equal, and so are the buffers
 --     LaterBytesStay    the bytes after the text are as they were
 --     TextIsThere       the first bytes are the text
+--     ReportFits        a report is never refused with 8 where its buffer has reportMost bytes: 2,084
 -- Assumes: nothing.
 use Prim.Native.Nat.{ℕ, _≤_, _<_}
 use mathlib.Core.Path.{_≡_}
 use mathlib.Core.List.{List}
-use lib.ListN.{getD}
+use lib.ListN.{getD, length}
+use Rattle.report.specs.Length.{reportMost}
 use Rattle.report.specs.Report.{Reported, reportText}
 use Rattle.report.specs.declared.Written.{Written}
-use Rattle.report.specs.declared.Written.the-variants.{Length}
+use Rattle.report.specs.declared.Written.the-variants.{Refused, Length}
 
 abbrev pub OneReport : Type 0
 OneReport =
@@ -24,3 +26,6 @@ abbrev pub TextIsThere : Type 0
 TextIsThere =
     (ws before after : List ℕ) (n x : ℕ) → Reported ws before (Length n) after → x < n
     → getD after x 0 ≡ getD (reportText ws) x 0
+
+abbrev pub ReportFits : Type 0
+ReportFits = (ws before after : List ℕ) → reportMost ≤ length before → Reported ws before (Refused 8) after → ⊥
