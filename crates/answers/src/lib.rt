@@ -1,5 +1,5 @@
 // What a lookup answers, and the list of the descriptors that it read. Start at `Outcome`.
-// Meets specs/Outcome.antt, which has the numbers of 01, and specs/Pieces.antt; where the words of an answer stand is
+// Meets specs/Outcome.antt, which has the rules' numbers, and specs/Pieces.antt; where the words of an answer stand is
 // in specs/Layout.antt too.
 ghost use mathlib.Core.Path.{_≡_};
 ghost use Rattle.answers.specs.Outcome.{recorded};
