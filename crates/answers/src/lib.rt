@@ -85,7 +85,8 @@ pub const LIST_WORDS: usize = 1 + 2 * PIECES_MOST;
 
 pub const ANSWER_WORDS: usize = COUNT_AT + LIST_WORDS;
 
-// The descriptors read, in order: the first `count` of the array, and zeros after them.
+// The descriptors read, in order: the first `count` of the array. Zeros follow them, but in a list of words that
+// something else wrote: whoever reads a list goes by its count.
 pub struct Pieces {
     pub count: u64,
     pub piece: [Piece; PIECES_MOST],
