@@ -17,7 +17,8 @@
  * nothing has to be checked first. A call that refuses says the refusal's number and leaves every lent byte and word as it was.
  *
  * What a caller owes, since no proof reaches into C: each pointer points at as many elements as are stated here, aligned
- * as their type asks, for the time of the call; what a call writes shares no byte with anything else that it is lent.
+ * as their type asks, for the time of the call, in which nothing else changes them; what a call writes shares no byte with
+ * anything else that it is lent.
  * A pointer whose length is 0 is not looked at. Nothing is kept from one call to the next but the words of a book,
  * which stay the caller's: a book may be moved and copied while no call runs. Calls on different books may run at once.
  *
