@@ -39,7 +39,7 @@ static void check(int fact, int line)
 
 #define CHECK(fact) check((fact) ? 1 : 0, __LINE__)
 
-/* ---- The tables: document 01's figure, and a stage 1 stream ---- */
+/* ---- The tables: the figure of docs/RULES.md, and a stage 1 stream ---- */
 
 static uint8_t memory[LLOBATELH_MEMORY_MOST + 1];
 static uint32_t registers[LLOBATELH_REGISTERS];

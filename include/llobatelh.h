@@ -17,7 +17,8 @@
  * nothing has to be checked first. A call that refuses says the refusal's number and leaves every lent byte and word as it was.
  *
  * What a caller owes, since no proof reaches into C: each pointer points at as many elements as are stated here, aligned
- * as their type asks, for the time of the call; what a call writes shares no byte with anything else that it is lent.
+ * as their type asks, for the time of the call, in which nothing else changes them; what a call writes shares no byte with
+ * anything else that it is lent.
  * A pointer whose length is 0 is not looked at. Nothing is kept from one call to the next but the words of a book,
  * which stay the caller's: a book may be moved and copied while no call runs. Calls on different books may run at once.
  *
@@ -97,7 +98,7 @@ typedef char llobatelh_size_has_64_bits[sizeof(size_t) == 8 ? 1 : -1];
 /*
  * ---- Answers ----
  *
- * An answer is 18 words. Words that a kind does not use are 0.
+ * An answer is 18 words. Words that a kind does not use are put as 0.
  */
 
 #define LLOBATELH_ANSWER_WORDS (LLOBATELH_ANSWER_PIECES + 2 * LLOBATELH_PIECES_MOST)
@@ -121,8 +122,8 @@ typedef char llobatelh_size_has_64_bits[sizeof(size_t) == 8 ? 1 : -1];
 #define LLOBATELH_ANSWER_EVENT 1 /* abort: one of the events below */
 #define LLOBATELH_ANSWER_CASE 1  /* unserved: one of the cases below */
 
-/* The descriptors that were read, in order: how many, and then the address and the length of each; 0 past the last.
-   A fetch that faulted is not among them. */
+/* The descriptors that were read, in order: how many, and then the address and the length of each; 0 past the last, but in a kept
+   answer of a book whose words something else wrote ("The book"): go by the count. A fetch that faulted is not among them. */
 #define LLOBATELH_ANSWER_COUNT (LLOBATELH_ANSWER_TTB0 + 1)
 #define LLOBATELH_ANSWER_PIECES (LLOBATELH_ANSWER_COUNT + 1)
 #define LLOBATELH_ANSWER_ADDRESS(i) (LLOBATELH_ANSWER_PIECES + 2 * (i))
@@ -171,9 +172,11 @@ typedef char llobatelh_size_has_64_bits[sizeof(size_t) == 8 ? 1 : -1];
  *     or a key that is not 0 is none of a request: 2^53 + 1 or more, or bit 20 of the request's word 0 and one below it 1;
  *     or a held slot's answer has a kind that is none; an event or a case that is not listed; an ASID of 2^16 or more, a T0SZ of 64
  *     or more, a TG0 above 3 or an EPD0 above 1; more than four pieces; or, among as many as it counts, one with address + length above 2^52.
- * Nothing else is looked at: an empty slot's answer, words that a kind does not use and pieces past the count may be any words, and
- * so may addresses, the effective IPS and TTB0. Of a kept answer an ask puts 0 for words that its
- * kind does not use, and the pieces past its count as the slot has them: 0, unless the caller wrote there.
+ * So a word is refused where it has more bits than the field that it stands for; STRTAB_BASE, the addresses of an STE and a CD, TTB0 and
+ * the effective IPS are numbers of a whole word, and any may stand there. Nothing is refused for being a value that no table would have
+ * given: the book does not know the tables. An empty slot's answer, words that a kind does not use and pieces past the count are not
+ * looked at. Of a kept answer an ask puts 0 for words that its kind does not use, and the pieces past its count as the slot has them:
+ * 0, unless the caller wrote there.
  */
 
 /* ---- Calls ---- */

@@ -1,5 +1,5 @@
 //! What a lookup answers.
-//! Follows 01, "What an answer holds".
+//! Follows RULES, "What an answer holds".
 
 use crate::registers::Registers;
 
@@ -11,7 +11,7 @@ pub const C_BAD_SUBSTREAMID: u64 = 0x08;
 pub const F_CD_FETCH: u64 = 0x09;
 pub const C_BAD_CD: u64 = 0x0A;
 
-/// Every event number that 01 lists.
+/// Every event number that the rules list.
 pub const EVENTS: [u64; 7] = [
     C_BAD_STREAMID,
     F_STE_FETCH,
@@ -29,7 +29,7 @@ pub const VMSAV8_32: u64 = 21;
 /// Unserved: a StreamWorld above EL1.
 pub const STREAM_WORLD: u64 = 22;
 
-/// Every unserved number that 01 lists.
+/// Every unserved number that the rules list.
 pub const UNSERVED: [u64; 3] = [STAGE_2, VMSAV8_32, STREAM_WORLD];
 
 /// What "translate" holds: the fields as stored, EPD0 set or not.
@@ -48,7 +48,7 @@ pub struct Translation {
 }
 
 /// The outcome of a lookup. Event and unserved numbers are plain numbers, so that a book can hold
-/// one that 01 does not list and refusal 7 can find it.
+/// one that the rules do not list and refusal 7 can find it.
 #[derive(Clone, Copy, Debug, PartialEq, Eq)]
 pub enum Outcome {
     Translate(Translation),

@@ -1,5 +1,5 @@
 //! The book: opening, ask and notice.
-//! Follows 01, "The book", and refusals 4 to 7 of "When the bench says no".
+//! Follows RULES, "The book", and refusals 4 to 7 of "When the bench says no".
 
 use crate::answer::{Answer, Outcome, EVENTS, UNSERVED};
 use crate::lookup::lookup;

@@ -1,5 +1,5 @@
 //! A book as 1,227 words, and an answer as 18; and the book's calls on such words.
-//! Follows refusal 7 of 01 and what include/llobatelh.h says of the words, under "Answers" and "The book".
+//! Follows refusal 7 of the rules and what include/llobatelh.h says of the words, under "Answers" and "The book".
 
 use crate::answer::{Answer, Outcome, Piece, Translation};
 use crate::book::{self, Book, Held, Kept};

@@ -1,5 +1,5 @@
 //! The four kinds of descriptor and their fields.
-//! Follows 01's field lists: L1STD in "From StreamID to STE" 5 and 6, STE in "Reading the STE",
+//! Follows the rules' field lists: L1STD in "From StreamID to STE" 5 and 6, STE in "Reading the STE",
 //! L1CD and CD in "From SubstreamID to CD". A descriptor is taken as its first 16 bytes, little-endian.
 
 use crate::field::{bit, field, Field};

@@ -1,5 +1,5 @@
 //! Fields of registers and descriptors, and the arithmetic on pointers.
-//! Follows 01's way of writing them: `[high:low]`, "bits taken as 0", "ADDR + 64 x StreamID".
+//! Follows the rules' way of writing them: `[high:low]`, "bits taken as 0", "ADDR + 64 x StreamID".
 
 /// The bits `[high:low]` of a word.
 #[derive(Clone, Copy, Debug, PartialEq, Eq)]
@@ -34,7 +34,7 @@ impl Field {
         self.low
     }
 
-    /// The field's value. No field of 01 is wider than 52 bits.
+    /// The field's value. No field of the rules is wider than 52 bits.
     pub fn of(self, word: impl Into<u128>) -> u64 {
         ((word.into() >> self.low) & self.ones()) as u64
     }
@@ -51,7 +51,7 @@ impl Field {
 }
 
 /// The first 16 bytes of a descriptor (all 8 of a short one) as a little-endian word.
-/// Every field that 01 reads lies in them.
+/// Every field that the rules read lies in them.
 pub fn word(bytes: &[u8]) -> u128 {
     let low_first = bytes.iter().take(16);
     low_first

@@ -1,7 +1,8 @@
-//! The independent second program: all of document 01, written from its text alone.
+//! The independent second program: all of the rules, written from the text of the customer's document 01 alone, which
+//! docs/RULES.md restates. A comment that says RULES names a section by the heading that both have.
 //!
-//! `field` to `report` are 01's rules, in 01's order; `script` is the script language of
-//! monitor-script.md; `scripts` makes scripts to compare the two programs on, and counts what they reach.
+//! `field` to `report` are the rules, in their order; `script` is the script language of
+//! docs/SCRIPT.md; `scripts` makes scripts to compare the two programs on, and counts what they reach.
 //! `book_words` is a book as the words of include/llobatelh.h; `damage` makes damaged ones and compares what the calls say of them.
 
 pub mod answer;

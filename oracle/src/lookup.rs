@@ -1,5 +1,5 @@
 //! The lookup: from a request to its answer and its list, and the STE that is handed back.
-//! Follows 01, "From StreamID to STE", "Reading the STE" and "From SubstreamID to CD", step by step.
+//! Follows RULES, "From StreamID to STE", "Reading the STE" and "From SubstreamID to CD", step by step.
 //! Each place where the lookup ends or takes a turn says which rule it is at, e.g. `"ste-5.bypass"`;
 //! these names go into the trace, for the counts of `scripts`, and nothing here depends on them.
 

@@ -1,5 +1,5 @@
 //! The oracle: reads a script on standard input and writes what it finds to standard output,
-//! as monitor-script.md says.
+//! as docs/SCRIPT.md says.
 
 use std::io::{self, BufWriter};
 

@@ -1,5 +1,5 @@
 //! The lent memory and the fetch rule.
-//! Follows 01, "What the monitor hands over" and the paragraph below step 6 of "From StreamID to STE".
+//! Follows RULES, "What the monitor hands over" and the paragraph below step 6 of "From StreamID to STE".
 
 use std::ops::Range;
 

@@ -1,6 +1,6 @@
 //! The refusals of a lookup, 1 to 3, which the book stands on as well.
-//! Follows 01, "When the bench says no". Refusals 4 to 7 are in `book`, 8 is in `report`.
-//! Every call makes its checks in the order that 01 gives for it, one `check_N` after the other.
+//! Follows RULES, "When the bench says no". Refusals 4 to 7 are in `book`, 8 is in `report`.
+//! Every call makes its checks in the order that RULES gives for it, one `check_N` after the other.
 
 use crate::registers::Registers;
 use crate::request::SubstreamId;

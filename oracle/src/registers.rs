@@ -1,5 +1,5 @@
 //! The registers that the monitor hands over and the fields that are read.
-//! Follows 01, "What the monitor hands over", and the fields of STRTAB_BASE_CFG in "From StreamID to STE".
+//! Follows RULES, "What the monitor hands over", and the fields of STRTAB_BASE_CFG in "From StreamID to STE".
 
 use crate::field::{bit, field, Field};
 

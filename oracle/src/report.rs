@@ -1,5 +1,5 @@
 //! The report of a book.
-//! Follows the second half of 01, "The book", and refusal 8 of "When the bench says no".
+//! Follows the second half of RULES, "The book", and refusal 8 of "When the bench says no".
 
 use crate::answer::Outcome;
 use crate::book::{check_7, Book, Held};

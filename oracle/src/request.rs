@@ -1,5 +1,5 @@
 //! A request: a StreamID, with a SubstreamID or without one.
-//! Follows 01, "What the monitor hands over".
+//! Follows RULES, "What the monitor hands over".
 
 /// A StreamID has 32 bits.
 #[derive(Clone, Copy, Debug, PartialEq, Eq)]

@@ -1,5 +1,5 @@
 //! The script language: reading a line, doing what it says, and the run over a whole script.
-//! Follows monitor-script.md; the sections are named below.
+//! Follows docs/SCRIPT.md; the sections are named below.
 
 use std::io::{self, BufRead, Read, Write};
 

@@ -1,6 +1,6 @@
 -- The tests of src/proper.rt, on plain values: a law for each way out.
 --     asid-wide, t0sz-wide, tg0-wide, widths-last       the widths of a translation's fields; the last decides
---     event-is, event-other, case-is, case-other    a number that 01 lists, and one that it does not
+--     event-is, event-other, case-is, case-other    a number that the rules list, and one that they do not
 --     translate-tested .. unserved-tested               an outcome, by its cases
 --     address-past, length-last                         where a piece ends
 --     list-long, list-is                                a list: too long; else what its pieces say

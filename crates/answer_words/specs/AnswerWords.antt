@@ -1,4 +1,4 @@
--- An answer as words, and back: how a book keeps it (01, "What an answer holds").
+-- An answer as words, and back: how a book keeps it (RULES, "What an answer holds").
 --     wordsOf              the words of an outcome and a list: start here
 --     outcomeOf, listOf    the outcome and the list that words stand for
 --     stands               whether words stand for an answer

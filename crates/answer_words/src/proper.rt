@@ -23,7 +23,7 @@ fn has_widths(t: Translation) -> bool
     t.epd0 < 1 << 1
 }
 
-// One of 01's event numbers.
+// One of the rules' event numbers.
 fn is_event(event: u64) -> bool
     ensures { λ r. ⌜ r ≡ listedEvent event ⌝ }
 {
@@ -39,7 +39,7 @@ fn is_event(event: u64) -> bool
     }
 }
 
-// One of 01's unserved cases.
+// One of the rules' unserved cases.
 fn is_case(case: u64) -> bool
     ensures { λ r. ⌜ r ≡ listedCase case ⌝ }
 {

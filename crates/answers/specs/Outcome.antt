@@ -1,4 +1,4 @@
--- The numbers of 01 for what a lookup answers (01, "What an answer holds").
+-- The rules' numbers for what a lookup answers (RULES, "What an answer holds").
 --     cBadStreamId .. cBadCd               the events, by the standard's names
 --     stage2, vmsa32, streamWorld          the unserved cases
 --     recorded                             whether an abort's event is recorded

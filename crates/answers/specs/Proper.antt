@@ -1,4 +1,4 @@
--- What every answer of a lookup has (01, "What an answer holds", "When the bench says no", row 7).
+-- What every answer of a lookup has (RULES, "What an answer holds", "When the bench says no", row 7).
 --     properOutcome      the fields of a translation have their widths, and an event or unserved number is one of those listed
 --     properPieces       at most four pieces, and none that is counted ends past 2^52
 --     ProperAnswer       an outcome and a list that are proper, in an array of four: what a book may keep

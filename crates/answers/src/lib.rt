@@ -1,5 +1,5 @@
 // What a lookup answers, and the list of the descriptors that it read. Start at `Outcome`.
-// Meets specs/Outcome.antt, which has the numbers of 01, and specs/Pieces.antt; where the words of an answer stand is
+// Meets specs/Outcome.antt, which has the rules' numbers, and specs/Pieces.antt; where the words of an answer stand is
 // in specs/Layout.antt too.
 ghost use mathlib.Core.Path.{_≡_};
 ghost use Rattle.answers.specs.Outcome.{recorded};
@@ -85,7 +85,8 @@ pub const LIST_WORDS: usize = 1 + 2 * PIECES_MOST;
 
 pub const ANSWER_WORDS: usize = COUNT_AT + LIST_WORDS;
 
-// The descriptors read, in order: the first `count` of the array, and zeros after them.
+// The descriptors read, in order: the first `count` of the array. Zeros follow them, but in a list of words that
+// something else wrote: whoever reads a list goes by its count.
 pub struct Pieces {
     pub count: u64,
     pub piece: [Piece; PIECES_MOST],

@@ -1,7 +1,7 @@
 -- Bits of numbers.
 --     low, high    x's k low bits; x without them, moved down
 --     field        so many bits of a word, from a lowest one up
---     bits         the same by its ends, as 01 writes it: [hi:lo]
+--     bits         the same by its ends, as the rules write it: [hi:lo]
 --     bitsOf       bits of a descriptor of several words, numbered from its first one on
 --     alignedDown  x with its k low bits taken as 0
 --     power        2^k as 64 bits hold it

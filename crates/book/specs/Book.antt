@@ -1,4 +1,4 @@
--- What the book does (01, "The book", "When the bench says no"): the result, and every word afterwards.
+-- What the book does (RULES, "The book", "When the bench says no"): the result, and every word afterwards.
 --     Opened, Asks, Noticed     what is promised of open, ask and notice: start here
 --     askResult, askBook        an ask
 --     shares, touched, struckFrom    a notice: which slots it strikes

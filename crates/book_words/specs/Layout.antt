@@ -1,4 +1,4 @@
--- The book's words (design: a header, one column of keys, a block for each slot).
+-- The book's words: a header, one column of keys, a block for each slot.
 --     slotsMost, bookWords                          the sizes
 --     registersAt .. keysFrom, blocksFrom           where each part stands
 --     slotsOf, registersOf, baseOf, lengthOf        the header, as read

@@ -1,4 +1,4 @@
--- Refusal 7, item by item (01, "When the bench says no"; design: "words that stand for no value of a field").
+-- Refusal 7, item by item (RULES, "When the bench says no": row 7, and what stands below the table).
 --     refusal7       the whole row: start here
 --     slotWell       what is asked of one slot
 --     firstFrom      the lowest slot with a key

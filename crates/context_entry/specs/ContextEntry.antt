@@ -1,4 +1,4 @@
--- What a CD says (01, "From SubstreamID to CD", second half; 003, 5.4).
+-- What a CD says (RULES, "From SubstreamID to CD", second half; 003, 5.4).
 --     cdRule            in order: start here
 --     v .. ttb0         the fields, by 003's names
 --     halfFits          the granule and range rule, of either half of the address space

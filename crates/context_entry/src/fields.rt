@@ -1,5 +1,5 @@
 // The fields of the CD at a place of the memory, a function each, by the names of 003.
-// Meets specs/ContextEntry.antt, which gives 01's bits; the numbers here are the word, the lowest bit in it and the width.
+// Meets specs/ContextEntry.antt, which gives the rules' bits; the numbers here are the word, the lowest bit in it and the width.
 ghost use mathlib.Core.Path.{_≡_};
 ghost use Rattle.memory_image.specs.Words.{wordOf};
 ghost use Rattle.context_entry.specs.ContextEntry as cd;

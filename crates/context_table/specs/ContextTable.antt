@@ -1,4 +1,4 @@
--- From SubstreamID to CD (01, "From SubstreamID to CD"; 001).
+-- From SubstreamID to CD (RULES, "From SubstreamID to CD"; 001).
 --     contextRule       the whole of it, from the STE's words and the index: start here
 --     leafBits          how many low bits of the index S1Fmt puts in the leaf
 --     l1cdAt, l1cdRule  where the L1CD is, and what it says

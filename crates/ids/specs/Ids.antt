@@ -1,4 +1,4 @@
--- The two kinds of id and a request (01, "What the monitor hands over"; refusal 3 of "When the bench says no").
+-- The two kinds of id and a request (RULES, "What the monitor hands over"; RULES, "When the bench says no", refusal 3).
 --     streamBits, substreamBits      the widths of the two kinds
 --     madeStream, madeSubstream      what the constructors answer
 --     refusal3                       a request that is refused with 3

@@ -1,4 +1,4 @@
--- The whole lookup (01, "When the bench says no", "From StreamID to STE" to "What an answer holds").
+-- The whole lookup (RULES, "When the bench says no", "From StreamID to STE" to "What an answer holds").
 --     lookedUp        what a call answers, with its list, for every input, the refusals in their order: start here
 --     lookupRule      the rules of the four stages as one
 --     LooksUp         the same into an answer's words

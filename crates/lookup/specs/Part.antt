@@ -1,4 +1,4 @@
--- The STE handed back (01, "What an answer holds": "that very part of the lent memory").
+-- The STE handed back (RULES, "What an answer holds": "that very part of the lent memory").
 --     SteHanded     what a call hands back, by where the STE lies: start here
 --     steAt         where it lies in the memory, if it is fetched and nothing is refused
 --     steAtRule     the rule: the same walk, and the same fetch, as the lookup's

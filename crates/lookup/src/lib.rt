@@ -29,7 +29,7 @@ pub struct Looked {
 }
 
 // What a stream gets, by the registers and the tables in memory: a refusal (1, 2 or 3, the first that
-// applies), or the answer of document 01 with its list.
+// applies), or the answer of docs/RULES.md with its list.
 pub fn lookup(registers: Registers, base: u64, memory: &[u8], request: Request) -> Looked
     ensures { λ r. ⌜ r ≡ lookedUp registers base (now (memory .entry)) request ⌝ }
 {

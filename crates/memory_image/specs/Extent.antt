@@ -1,5 +1,5 @@
 -- Where the lent memory lies: refusal 2, and when a descriptor is fetched
--- (01, "What the monitor hands over", "When the bench says no", "From StreamID to STE").
+-- (RULES, "What the monitor hands over", "When the bench says no", "From StreamID to STE").
 --     memoryMost, addressTop   the limits
 --     refusal2                 a base and a length that are refused with 2
 --     endOf, below             where an extent ends; what of a memory lies below the limit

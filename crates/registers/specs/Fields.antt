@@ -1,5 +1,5 @@
--- The fields of the registers that 01 reads (01, "What the monitor hands over", "From StreamID to STE"; 002),
--- each by the name and the bits that 01 gives it.
+-- The fields of the registers that are read (RULES, "What the monitor hands over", "From StreamID to STE"; 002),
+-- each by the name and the bits that the rules give it.
 --     s2p s1p ttf hyp cd2l stLevel            of IDR0
 --     sidSize ssidSize                        of IDR1
 --     oas gran4k gran16k gran64k              of IDR5

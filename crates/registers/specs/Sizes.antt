@@ -1,4 +1,4 @@
--- The sizes that OAS codes (01, "What the monitor hands over"), and refusal 1 ("When the bench says no").
+-- The sizes that OAS codes (RULES, "What the monitor hands over"), and refusal 1 (RULES, "When the bench says no").
 --     sizes       the sizes, by the code
 --     sizeOf      the size in bits that a code of OAS means
 --     oasSize     this SMMU's

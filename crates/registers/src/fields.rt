@@ -1,5 +1,5 @@
 // The fields of the registers, a function each, by the standard's names.
-// Meets specs/Fields.antt, which gives 01's bits; the numbers here are the lowest bit and the width.
+// Meets specs/Fields.antt, which gives the rules' bits; the numbers here are the lowest bit and the width.
 ghost use mathlib.Core.Path.{_≡_};
 ghost use Rattle.registers.specs.Fields as fields;
 use bit_fields::field;

@@ -1,4 +1,4 @@
--- The report: the book as text (01, "The book", "When the bench says no").
+-- The report: the book as text (RULES, "The book", "When the bench says no").
 --     Reported        what is promised of `report`: start here
 --     reportText      the text: a header, then the held slots in rising order
 --     lineAt          a slot's line

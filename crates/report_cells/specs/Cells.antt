@@ -1,4 +1,4 @@
--- The report's cells and lines (01, "The book": the report).
+-- The report's cells and lines (RULES, "The book": the report).
 --     lineText       a line: its cells parted by one tab, and a line feed: start here
 --     cellText       a line's cell in a column: 0 slot, 1 stream, 2 substream, 3 outcome, 4 event
 -- Assumes: nothing.

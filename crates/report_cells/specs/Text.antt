@@ -1,4 +1,4 @@
--- Texts as bytes, and numbers in digits (01, "The book": the report).
+-- Texts as bytes, and numbers in digits (RULES, "The book": the report).
 --     bytes             the bytes of a text of ASCII
 --     digits            the last digits of a number, in a base
 --     hexLower, hexUpper, decimalText, slotText     those that the report has

@@ -1,4 +1,4 @@
--- Where an edit's bytes lie (the monitor's script: `write`, `fill`, "Sums and products are exact, past 2^64").
+-- Where an edit's bytes lie (SCRIPT, "What is wrong with a line": "Sums and products are exact, past 2^64").
 --     placeRule    the offset in the lent memory at which they begin, if all of them lie in it
 -- Assumes: nothing.
 use Prim.Native.Nat.{ℕ, _+_, _-_, _*_}

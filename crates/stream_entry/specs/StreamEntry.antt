@@ -1,9 +1,9 @@
--- What an STE says (01, "Reading the STE", steps 1 to 8; 003, 5.2; 004).
+-- What an STE says (RULES, "Reading the STE", steps 1 to 8; 003, 5.2; 004).
 --     steRule          the first rule that applies: start here
 --     v .. strw        the fields, by 003's names
 --     badStage1        step 6
 --     withId, withoutId    step 8, with a SubstreamID and without one: how the lookup ends, or the index of its CD
--- Ours: Config 100 with a SubstreamID is C_BAD_SUBSTREAMID (5); the checks of step 6 are 01's, and 003 calls S1Fmt 3 and S1DSS 3 "behaves as 0".
+-- Ours: Config 100 with a SubstreamID is C_BAD_SUBSTREAMID (5); the checks of step 6 as they stand: 003 calls S1Fmt 3 and S1DSS 3 "behaves as 0".
 -- Assumes: nothing.
 use Prim.Native.Nat.{ℕ, _*_, _^_}
 use mathlib.Core.Bool.{Bool, not, _&&_, _||_}

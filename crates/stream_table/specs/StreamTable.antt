@@ -1,4 +1,4 @@
--- From StreamID to STE (01, "From StreamID to STE", steps 1 to 6; 000, 002).
+-- From StreamID to STE (RULES, "From StreamID to STE", steps 1 to 6; 000, 002).
 --     streamRule       the whole of it: start here
 --     switchedOff      step 1
 --     log2             step 2: the effective LOG2SIZE

@@ -1,4 +1,4 @@
--- Numbers and bytes as a script writes them (the monitor's script, "Lines").
+-- Numbers and bytes as a script writes them (SCRIPT, "Lines").
 --     numberRule           what a word is as a number
 --     isPairs, pairRule    whether a word is pairs of hexadecimal digits; the byte that a pair says
 -- Assumes: nothing.

@@ -1,4 +1,4 @@
--- The words of a line (the monitor's script, "Lines").
+-- The words of a line (SCRIPT, "Lines").
 --     wordsOf          the words, in order: start here
 --     withoutReturn    a line without the one carriage return that it may end with
 --     stops, passed    where a word or a run of blanks ends, for the code's own steps

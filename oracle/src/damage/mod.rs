@@ -1,5 +1,5 @@
 //! Damaged books for the C interface: the cases, what this program says of each, and the comparison.
-//! They follow no section of 01. A case is a call with all that it is lent; it is settled by the seed and its number, on
+//! They follow no section of the rules. A case is a call with all that it is lent; it is settled by the seed and its number, on
 //! every machine alike, so the one who compares makes the cases again. c/damage.c makes the calls.
 
 mod books;

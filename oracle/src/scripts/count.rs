@@ -1,5 +1,5 @@
-//! Counts what scripts reach: every outcome, event, refusal and rule of 01, both sides of every boundary,
-//! what becomes of a book, and every reason of monitor-script.md. One that is never reached counts 0.
+//! Counts what scripts reach: every outcome, event, refusal and rule, both sides of every boundary,
+//! what becomes of a book, and every reason of docs/SCRIPT.md. One that is never reached counts 0.
 
 use std::collections::BTreeMap;
 

@@ -1,4 +1,4 @@
-//! The values of each field that stand at a boundary of a rule of 01.
+//! The values of each field that stand at a boundary of a rule.
 
 use crate::descriptors::{cd, l1cd, l1std, ste, Kind};
 use crate::field::Field;
@@ -87,13 +87,13 @@ pub fn pointer_of(kind: Kind) -> Field {
     }
 }
 
-/// The bits of a descriptor's first 16 bytes that belong to a field of 01.
+/// The bits of a descriptor's first 16 bytes that belong to a field of the rules.
 pub fn read_bits_of_descriptor(kind: Kind) -> u128 {
     let fields = of_descriptor(kind).iter().map(|(field, _)| field.mask());
     fields.fold(pointer_of(kind).mask(), |all, mask| all | mask)
 }
 
-/// The bits of a register that belong to a field of 01.
+/// The bits of a register that belong to a field of the rules.
 pub fn read_bits_of_register(register: Register) -> u128 {
     let of_it = OF_REGISTERS.iter().filter(|(of, _, _)| *of == register);
     let start = match register {

@@ -1,6 +1,6 @@
 //! Scripts to compare the two programs on, and the count of what they reach.
-//! They follow no section of 01: they are built so that every rule of 01 and every sentence of
-//! monitor-script.md is reached many times, on tables that mostly make sense.
+//! They follow no section of the rules: they are built so that every rule and every sentence of
+//! docs/SCRIPT.md is reached many times, on tables that mostly make sense.
 //!
 //! A script is settled by its sort, its seed and its index, on every machine alike.
 

@@ -1,4 +1,4 @@
-//! What the tests share: 004's figure as 01's "Shots on the bench" sets it up, and short ways to say things.
+//! What the tests share: 004's figure as RULES, "Shots on the bench", sets it up, and short ways to say things.
 
 use oracle::answer::{Answer, Outcome, Piece, Translation};
 use oracle::descriptors::ste;

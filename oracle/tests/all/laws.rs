@@ -1,4 +1,4 @@
-//! 01's promises, on tables and histories made from random numbers: the list decides the answer, the book is
+//! The rules' promises, on tables and histories made from random numbers: the list decides the answer, the book is
 //! never stale where every edit has its notice, and every input ends with an answer or a refusal.
 
 use crate::common::*;

@@ -1,4 +1,4 @@
-//! monitor-script.md, sentence by sentence: lines, numbers, HEX, what each line does and writes,
+//! docs/SCRIPT.md, sentence by sentence: lines, numbers, HEX, what each line does and writes,
 //! and what is wrong with a line.
 
 use std::io::{self, BufReader, Write};

@@ -1,4 +1,4 @@
-//! The tests of the oracle, by the section of 01 or of monitor-script.md that they hold it to.
+//! The tests of the oracle, by the section of docs/RULES.md or of docs/SCRIPT.md that they hold it to.
 
 mod common;
 mod coverage;

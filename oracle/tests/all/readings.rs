@@ -1,4 +1,4 @@
-//! 01, "Readings that look right and aren't": each on a table where the wrong reading gives another answer.
+//! RULES, "Readings that look right and aren't": each on a table where the wrong reading gives another answer.
 
 use crate::common::*;
 use oracle::answer::*;

@@ -1,4 +1,4 @@
-//! 01, "When the bench says no": each refusal on both sides of each boundary, the orders,
+//! RULES, "When the bench says no": each refusal on both sides of each boundary, the orders,
 //! and that a refused call changes nothing.
 
 use crate::common::*;
@@ -313,7 +313,7 @@ fn refusal_7_a_held_list() {
         (END, 1, true),
         (END + 1, 0, true),
         (u64::MAX, u64::MAX, true),
-        // Not what a lookup lists, and yet not listed by 01 as malformed.
+        // Not what a lookup lists, and yet not listed by the rules as malformed.
         (3, 5, false),
         (0, END, false),
     ] {

@@ -1,4 +1,4 @@
-//! 01, "From StreamID to STE", "Reading the STE", "From SubstreamID to CD" and "What an answer holds":
+//! RULES, "From StreamID to STE", "Reading the STE", "From SubstreamID to CD" and "What an answer holds":
 //! each rule on both sides of its boundaries.
 
 use crate::common::*;

@@ -1,4 +1,4 @@
-//! 01, "Shots on the bench": P1 to P14 with their lists, the others, and the report of "The book".
+//! RULES, "Shots on the bench": P1 to P14 with their lists, the others, and the report of "The book".
 
 use crate::common::*;
 use oracle::answer::*;

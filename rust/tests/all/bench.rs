@@ -1,4 +1,4 @@
-//! Registers and tables to look requests up in: document 01's figure, and its stage 1 stream.
+//! Registers and tables to look requests up in: the figure of docs/RULES.md, and its stage 1 stream.
 
 use llobatelh::*;
 

@@ -1,4 +1,4 @@
-//! Document 01's shots, P1 to P14, with their lists.
+//! The shots of docs/RULES.md, P1 to P14, with their lists.
 
 use crate::bench::*;
 use llobatelh::*;
