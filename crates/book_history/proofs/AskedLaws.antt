@@ -1,6 +1,7 @@
 -- What an accepted ask has passed, and the two sentences of demand 3 that speak of one.
 --     looked-is               its lookup refuses nothing
 --     Passed, passed          the refusals that it passed, what it told and what it left
+--     accepts                 and back: where it passes them it is accepted
 --     slot-is, unkept         a request that is kept has one slot; one that isn't has none
 --     new-in-lowest, kept-from-its-slot
 -- Assumes: nothing.
@@ -13,8 +14,9 @@ use borrow.Author.Tests.{lt-ltb, le-ltb, ltb-true, ltb-false}
 use lib.Dec.{ltb}
 use lib.ListN.{length, getD, set}
 use lib.Seq.{getD-set-other}
+use Rattle.number_laws.proofs.Tests.{not-both}
 use Rattle.bit_fields.specs.Choice.{if_then_else_}
-use Rattle.bit_fields.proofs.ChoiceLaws.{by-test}
+use Rattle.bit_fields.proofs.ChoiceLaws.{by-test, either}
 use Rattle.ids.specs.Ids.{refusal3}
 use Rattle.ids.specs.declared.Request.{Request}
 use Rattle.memory_image.specs.Extent.{Extent, extentOf, refusal2}
@@ -34,7 +36,7 @@ use Rattle.book_words.proofs.WellLaws.{first-key, first-low, held-to, well-to}
 use Rattle.book_words.proofs.WordsLaws.{same-extent}
 use Rattle.book.specs.Book.{refusedWith, slotOf, emptySlot, newly, nowHolding, askResult, askBook, newLookup, Asks}
 use Rattle.book.specs.declared.Asked.{Asked}
-use Rattle.book.specs.declared.Reply.the-variants.{KeptBefore, NewlyKept, NotKept}
+use Rattle.book.specs.declared.Reply.the-variants.{Refused, KeptBefore, NewlyKept, NotKept}
 use Rattle.book_history.specs.Demand3.{Accepted, lookedIn, KeptIn, Empty, NewIn, NoRoom, Anew, NewInLowest, KeptFromItsSlot}
 
 -- the lookup of an ask that has passed the book's refusals is answered
@@ -78,6 +80,26 @@ module _ (ws : List ℕ) (base : ℕ) (memory : List ℕ) (request : Request) (a
 
       refused : {n : ℕ} → asked ≡ refusedWith n → Passed
       refused {n = n} is = absurd (accepted n (ap (λ (a : Asked). a .reply) is))
+
+-- an ask that passes the refusals is accepted
+pub accepts :
+    (ws : List ℕ) (base : ℕ) (memory : List ℕ) (request : Request) (asked : Asked) (after : List ℕ) → refusal7 ws ≡ false
+    → otherExtent ws base (length memory) ≡ false → refusal3 request ≡ false → Asks ws base memory request asked after → Accepted (asked .reply)
+unfolding askResult
+accepts ws base memory request asked after well same third promise n is =
+    by-test Not (refusal7 ws) (λ bad. not-both (sym bad ∙ well))
+    (λ one. by-test Not (otherExtent ws base (length memory)) (λ other. not-both (sym other ∙ same))
+    (λ two. by-test Not (refusal3 request) (λ wide. not-both (sym wide ∙ third))
+    (λ three. either Not (ltb (slotOf ws request) (slotsOf ws)) (λ so. let z : _≡_ {A = ℕ} 0 1 = cc in omega arith)
+    (rw (looked-is ws base memory request well same third) (anew (ltb (emptySlot ws) (slotsOf ws)) _ _)))))
+    (sym (ap (λ (a : Asked). a .reply) (promise .result)) ∙ is)
+  where
+    Not : Asked → Type 0
+    Not told = told .reply ≡ Refused n → ⊥
+
+    anew : (room : Bool) (outcome : Outcome) (list : Pieces) → Not (newly room (looked.Is outcome) list)
+    anew true outcome list so = let z : _≡_ {A = ℕ} 0 1 = cc in omega arith
+    anew false outcome list so = let z : _≡_ {A = ℕ} 0 1 = cc in omega arith
 
 -- where a request is kept
 module _ (ws : List ℕ) (request : Request) where

@@ -1,4 +1,6 @@
 -- Demand 3: specs/Demand3.antt, each sentence under its own name; the two that speak of one ask are in AskedLaws.
+--     touched-to, hit      a slot that is touched has read there, and one that has is touched
+--     strikes-exactly, never-stale
 -- Assumes: nothing.
 use Prim.Native.Nat.{ℕ, zero, suc, _+_, _-_, _^_, _≤_, _<_, min}
 use native.Mathlib.Omega.{arith}
@@ -63,7 +65,7 @@ module _ (start size : ℕ) where
           record { place = one .place; low = omega arith; high = omega arith; shared = one .shared }
 
   module _ (ws : List ℕ) (i : ℕ) where
-    touched-to : touched ws start size i ≡ true → (keyAt ws i ≡ 0 → ⊥) × ReadThere ws start size i
+    pub touched-to : touched ws start size i ≡ true → (keyAt ws i ≡ 0 → ⊥) × ReadThere ws start size i
     unfolding touched
     touched-to is =
         let two = both (not (eqb (keyAt ws i) 0)) _ is in
@@ -89,7 +91,7 @@ module _ (ws : List ℕ) (start size : ℕ) (good : refusal7 ws ≡ false) where
   after-key : (i : ℕ) → i < slotsMost → keyAt (struckFrom ws start size slotsMost 0) i ≡ (if touched ws start size i then 0 else keyAt ws i)
   after-key i small = struck-key start size slotsMost ws 0 i (omega arith) (omega arith) (omega arith)
 
-  hit : (i : ℕ) → i < slotsMost → (keyAt ws i ≡ 0 → ⊥) → ReadThere ws start size i → touched ws start size i ≡ true
+  pub hit : (i : ℕ) → i < slotsMost → (keyAt ws i ≡ 0 → ⊥) → ReadThere ws start size i → touched ws start size i ≡ true
   hit i small held read =
       touched-from start size ws i held (stands-count (blockAt ws i) (held-to ws i small (well-to ws good .slots i small) held .answer)) read
 
