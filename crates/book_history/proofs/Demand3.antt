@@ -35,10 +35,10 @@ use Rattle.book.specs.declared.Said.{Said}
 use Rattle.book.specs.declared.Said.the-variants as said
 use Rattle.book.proofs.NoticeLaws.{apart-from, untouched}
 use Rattle.book.proofs.StruckLaws.{struck-length, struck-else, struck-key}
-use Rattle.book_history.specs.History.{State, Begun, edit, more, handed, differs, handing}
+use Rattle.book_history.specs.History.{State, Begun, edit, handed, differs, handing}
 use Rattle.book_history.specs.Demand3.{Accepted, lookedIn, NeverStale, ReadThere, Struck, StrikesExactly, KeptIn}
 use Rattle.book_history.proofs.AskedLaws.{passed, kept-from-its-slot, new-in-lowest}
-use Rattle.book_history.proofs.HistoryLaws.{handed-today, begun-sound}
+use Rattle.book_history.proofs.HistoryLaws.{handed-today, later, begun-sound}
 use Rattle.book_history.proofs.Claims.{still-good, header-stays, shares-means}
 
 -- a notice: which slots it touches
@@ -165,17 +165,7 @@ module _ (s : State) (began : Begun s) (base : ℕ) (memory : List ℕ) (request
     (promise : Asks (s .words) base memory request asked after) (accepted : Accepted (asked .reply)) where
   -- what is handed in is one more edit
   handed-in : Begun (handing s base memory)
-  handed-in =
-      record {
-        before = began .before;
-        registers = began .registers;
-        extent = began .extent;
-        slots = began .slots;
-        after = began .after;
-        narrow = began .narrow;
-        accepted = began .accepted;
-        since = more (began .since) (edit (differs s base memory) (handed base memory));
-      }
+  handed-in = later began (edit (differs s base memory) (handed base memory))
 
   from-slot : (i : ℕ) → KeptIn (s .words) request i → lookedIn asked ≡ lookedUp (s .registers) base memory request
   from-slot i kept =

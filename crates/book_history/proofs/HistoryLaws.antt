@@ -2,6 +2,7 @@
 -- noticed, holds what a new lookup in today's memory gives. Of the lookup this cites `lookedUp` by its name, and its claims.
 --     Sound             the whole of it
 --     handed-today      the memory that an accepted ask was handed is today's
+--     later             one event more
 --     begun-sound       it holds after an accepted opening and any history
 -- Assumes: nothing.
 use Prim.Native.Nat.{ℕ, _+_, _-_, _^_, _≤_, _<_, min, max}
@@ -370,6 +371,20 @@ event-sound {s = s} (opens r e slots says after narrow promise) h = open-sound s
 history-sound : {s t : State} → History s t → Sound s → Sound t
 history-sound start h = h
 history-sound (more before event) h = event-sound event (history-sound before h)
+
+-- one event more
+pub later : {s t : State} → Begun s → Event s t → Begun t
+later began event =
+    record {
+      before = began .before;
+      registers = began .registers;
+      extent = began .extent;
+      slots = began .slots;
+      after = began .after;
+      narrow = began .narrow;
+      accepted = began .accepted;
+      since = more (began .since) event;
+    }
 
 pub begun-sound : (s : State) → Begun s → Sound s
 begun-sound s began =

@@ -47,11 +47,14 @@ later-bytes-stay ws before after n x said past =
     ap (λ (q : List ℕ). getD q x 0) (w .holds) ∙ placed-above before 0 (reportText ws) (w .fits) x (omega arith)
 
 pub text-is-there : TextIsThere
-text-is-there ws before after n x said inside =
+text-is-there ws before after n said =
     let w = wrote ws before after n said in
-    let l = w .long in
-    let p = placed-at before 0 (reportText ws) (w .fits) x (omega arith) in
-    ap (λ (q : List ℕ). getD q x 0) (w .holds) ∙ rw (zero-add x) at p
+    let l = w .long in (
+      l,
+      λ x inside.
+          let p = placed-at before 0 (reportText ws) (w .fits) x (omega arith) in
+          ap (λ (q : List ℕ). getD q x 0) (w .holds) ∙ rw (zero-add x) at p,
+    )
 
 pub report-fits : ReportFits
 unfolding reportSays

@@ -1,7 +1,7 @@
 -- What is claimed of the report beyond its contract. proofs/Claims.antt proves each under its own name.
 --     OneReport         any two results that the promise allows for one input are equal, and so are the buffers
 --     LaterBytesStay    the bytes after the text are as they were
---     TextIsThere       the first bytes are the text
+--     TextIsThere       the length is the text's, and the first bytes are the text
 --     ReportFits        a report is never refused with 8 where its buffer has reportMost bytes: 2,084
 -- Assumes: nothing.
 use Prim.Native.Nat.{ℕ, _≤_, _<_}
@@ -24,8 +24,8 @@ LaterBytesStay =
 
 abbrev pub TextIsThere : Type 0
 TextIsThere =
-    (ws before after : List ℕ) (n x : ℕ) → Reported ws before (Length n) after → x < n
-    → getD after x 0 ≡ getD (reportText ws) x 0
+    (ws before after : List ℕ) (n : ℕ) → Reported ws before (Length n) after
+    → (n ≡ length (reportText ws)) × ((x : ℕ) → x < n → getD after x 0 ≡ getD (reportText ws) x 0)
 
 abbrev pub ReportFits : Type 0
 ReportFits = (ws before after : List ℕ) → reportMost ≤ length before → Reported ws before (Refused 8) after → ⊥

@@ -102,7 +102,7 @@ pub real-run :
 unfolding ruled
 real-run r memory f request size same = rw (size, same)
 
-real :
+pub real :
     (s : Shot) → Right s → lookedUp (s .registers) 0 (tab 0x10000 (byteOf (s .memory))) (s .request) ≡ answered (expected s)
 real s right =
     let memory = tab 0x10000 (byteOf (s .memory)) in
