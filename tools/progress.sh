@@ -1,6 +1,8 @@
 # progress.sh: shows how far a proof is. Sourced, never run, by a script that has set `root`, the repository's folder.
-#     proving CRATE LOG COMMAND..      runs an rt command that proves CRATE and all that it stands on, in the repository's folder. What it
+#     proving CRATE LOG COMMAND..      runs a command of rt that proves CRATE and all that it stands on, in the repository's folder. What it
 #                                      says goes to LOG, and its exit status is handed on. A signal that ends us ends it too.
+#     stands_on CRATE                  it and all that it stands on, by crates.txt
+#     what_failed LOG                  the lines of LOG that say what failed and where, without the crates that only stand on it
 # What is shown goes to standard error: on a terminal one line, written over; elsewhere a line for each crate as it is done. In the end how long
 # it took. Where every crate was proved before, nothing is shown.
 # shellcheck shell=bash
@@ -39,7 +41,6 @@ proving() {
     return "$status"
 }
 
-# stands_on CRATE: it and all that it stands on, by crates.txt
 stands_on() {
     awk -v crate="$1" -F : '
         function visit(name,    i, n, below) {
@@ -94,6 +95,11 @@ summary() {
     local before=', the others before'
     [ "$tried" -lt "${#crates[@]}" ] || before=
     printf '%s of %s crates proved in %s%s\n' "$tried" "${#crates[@]}" "$(so_far)" "$before"
+}
+
+what_failed() {
+    grep -aE ': error|^fn .*: not proved$|^rt: ' "$1" | grep -avE '^rt: [^ ]+ (proved \(|NOT PROVED: its dependency )' |
+        sed -E 's/^(.{300}).*/\1 .../' | head -n 15 | grep -a '' || tail -n 15 "$1"
 }
 
 interrupted() {
