@@ -7,10 +7,10 @@
 # it took. Where every crate was proved before, nothing is shown.
 # shellcheck shell=bash
 
-# The functions below it see its variables.
+# The functions that it calls see its variables.
 proving() {
     local name=$1 log=$2 began=$SECONDS mark=$2.began signal names child status
-    local crates work=() tried=0 on_terminal=
+    local crates work=() tried=0 on_terminal='' shown=''
     local -A ended=()
     shift 2
     [ ! -t 2 ] || on_terminal=yes
@@ -35,7 +35,7 @@ proving() {
     look
     # `rt staticlib` does not say of its own crate that it is proved
     [ "$status" -ne 0 ] || for name in "${work[@]}"; do is_done "$name" proved; done
-    [ -z "$on_terminal" ] || over
+    [ -z "$shown" ] || over
     rm -f "$mark"
     [ "$status" -ne 0 ] || [ "$tried" -eq 0 ] || summary >&2
     return "$status"
@@ -70,7 +70,7 @@ look() {
     done
 }
 
-# is_done CRATE WORDS: notes it, the first time. One that was not tried, since it or what it stands on is as it was, has no line.
+# is_done CRATE WORDS: notes it, the first time. One that was not tried, unchanged or standing on one that failed, has no line.
 is_done() {
     [ -z "${ended[$1]-}" ] || return 0
     ended[$1]=$2
@@ -82,6 +82,7 @@ is_done() {
 # over [WORDS..]: writes them over the terminal's line
 over() {
     local line=$*
+    shown=yes
     printf '\r%s\033[K' "${line:0:${COLUMNS:-80}-1}" >&2
 }
 
@@ -104,7 +105,7 @@ what_failed() {
 
 interrupted() {
     kill -- "-$child" 2>/dev/null || kill "$child" 2>/dev/null
-    [ -z "$on_terminal" ] || echo >&2
+    [ -z "$shown" ] || echo >&2
     rm -f "$mark"
     trap - "$1"
     kill "-$1" "$BASHPID"
