@@ -5,21 +5,21 @@
 --     slot-is, unkept         a request that is kept has one slot; one that isn't has none
 --     new-in-lowest, kept-from-its-slot
 -- Assumes: nothing.
-use Prim.Native.Nat.{ℕ, _+_, _-_, _≤_, _<_}
+use Prim.Native.Nat.{ℕ, _+_, _≤_, _<_, _-_}
 use native.Mathlib.Omega.{arith}
 use mathlib.Core.Path.{_≡_, refl, sym, ap, _∙_}
 use mathlib.Core.Bool.{Bool, true, false}
 use mathlib.Core.List.{List}
-use borrow.Author.Tests.{lt-ltb, le-ltb, ltb-true, ltb-false}
+use borrow.Author.Tests.{lt-ltb, ltb-true, ltb-false}
 use lib.Dec.{ltb}
 use lib.ListN.{length, getD, set}
 use lib.Seq.{getD-set-other}
-use Rattle.number_laws.proofs.Tests.{not-both}
 use Rattle.bit_fields.specs.Choice.{if_then_else_}
+use Rattle.number_laws.proofs.Tests.{not-both}
 use Rattle.bit_fields.proofs.ChoiceLaws.{by-test, either}
 use Rattle.ids.specs.Ids.{refusal3}
 use Rattle.ids.specs.declared.Request.{Request}
-use Rattle.memory_image.specs.Extent.{Extent, extentOf, refusal2}
+use Rattle.memory_image.specs.Extent.{extentOf, refusal2}
 use Rattle.answers.specs.Layout.{answerWords}
 use Rattle.answers.specs.Pieces.{piecesOf}
 use Rattle.answers.specs.declared.Outcome.{Outcome}
@@ -37,7 +37,7 @@ use Rattle.book_words.proofs.WordsLaws.{same-extent}
 use Rattle.book.specs.Book.{refusedWith, slotOf, emptySlot, newly, nowHolding, askResult, askBook, newLookup, Asks}
 use Rattle.book.specs.declared.Asked.{Asked}
 use Rattle.book.specs.declared.Reply.the-variants.{Refused, KeptBefore, NewlyKept, NotKept}
-use Rattle.book_history.specs.Demand3.{Accepted, lookedIn, KeptIn, Empty, NewIn, NoRoom, Anew, NewInLowest, KeptFromItsSlot}
+use Rattle.book_history.specs.Demand3.{Accepted, lookedIn, KeptIn, Empty, NewIn, NoRoom, NewInLowest, KeptFromItsSlot}
 
 -- the lookup of an ask that has passed the book's refusals is answered
 pub looked-is :

@@ -1,13 +1,11 @@
 -- The claims of specs/Claims.antt, each under its own name.
 -- Assumes: nothing.
-use Prim.Native.Nat.{ℕ, _+_, _≤_, _<_, min, max}
+use Prim.Native.Nat.{_+_, _<_, min, max}
 use native.Mathlib.Omega.{arith}
-use mathlib.Core.Path.{_≡_, refl, sym, _∙_}
-use mathlib.Core.Bool.{true, false}
-use mathlib.Core.List.{List}
+use mathlib.Core.Path.{_≡_, sym, _∙_}
 use borrow.Author.Tests.{lt-ltb, ltb-true}
 use lib.ListN.{length}
-use Rattle.book_words.specs.Layout.{slotsMost, keyAt, openedWith}
+use Rattle.book_words.specs.Layout.{openedWith}
 use Rattle.book_words.proofs.WellLaws.{well-from}
 use Rattle.book_words.proofs.KeepsLaws.{opened-empty}
 use Rattle.book.specs.Book.{shares}

@@ -5,10 +5,9 @@ use native.Mathlib.Omega.{arith}
 use mathlib.Core.Path.{_≡_, refl, sym, ap, _∙_}
 use mathlib.Core.Bool.{Bool, true, false, _||_}
 use mathlib.Core.List.{List}
-use mathlib.Core.Logic.{_⊎_, inl, inr}
+use mathlib.Core.Logic.{inl, inr}
 use lib.Dec.{eqb, ltb}
 use lib.ListN.{length}
-use Rattle.bit_fields.specs.Choice.{if_then_else_}
 use Rattle.bit_fields.proofs.ChoiceLaws.{alike, either, by-test}
 use Rattle.ids.specs.Ids.{refusal3}
 use Rattle.ids.specs.declared.Request.{Request}
@@ -23,12 +22,11 @@ use Rattle.lookup.specs.declared.Answer.the-variants as looked
 use Rattle.lookup.specs.declared.Looked.{Looked}
 use Rattle.book_words.specs.Layout.{slotsMost, slotsOf, keyOf, otherExtent}
 use Rattle.book_words.specs.Malformed.{refusal7}
-use Rattle.book.specs.Book.{openSays, slotOf, emptySlot, newly, nowHolding, askResult, askBook, newLookup, noticeSays, Opened, Asks}
+use Rattle.book.specs.Book.{openSays, slotOf, emptySlot, newly, nowHolding, askResult, askBook, newLookup, noticeSays}
 use Rattle.book.specs.Into.{askPut}
 use Rattle.book.specs.declared.Asked.{Asked}
 use Rattle.book.specs.declared.Said.{Said}
 use Rattle.book.specs.declared.Said.the-variants as said
-use Rattle.book.specs.declared.Reply.{Reply}
 use Rattle.book.specs.declared.Reply.the-variants as reply
 use Rattle.report.specs.Report.{reportSays, reportText}
 use Rattle.report.specs.declared.Written.{Written}

@@ -1,18 +1,15 @@
 -- Demand 2: specs/Demand2.antt, each sentence under its own name, from what is claimed of the lookup.
 -- Assumes: nothing.
-use Prim.Native.Nat.{ℕ, _+_, _-_, _≤_, _<_}
+use Prim.Native.Nat.{ℕ, _+_, _<_, _-_}
 use native.Mathlib.Omega.{arith}
 use native.Mathlib.Nat.{zero-add}
 use mathlib.Core.Path.{_≡_, refl, sym, ap, _∙_}
-use mathlib.Core.Bool.{true, false}
-use mathlib.Core.List.{List}
 use lib.ListN.{getD, length}
 use Rattle.bit_fields.proofs.ChoiceLaws.{either}
 use Rattle.placed.proofs.FromLaws.{values-length, values-at}
 use Rattle.ids.specs.Ids.{refusal3}
 use Rattle.registers.specs.Sizes.{refusal1}
 use Rattle.memory_image.specs.Extent.{extentOf, refusal2}
-use Rattle.answers.specs.declared.Outcome.{Outcome}
 use Rattle.lookup.specs.Lookup.{lookedUp, answered, ruled}
 use Rattle.lookup.specs.declared.Looked.{Looked}
 use Rattle.lookup.specs.declared.Answer.the-variants.{Is}

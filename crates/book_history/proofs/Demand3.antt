@@ -2,23 +2,23 @@
 --     touched-to, hit      a slot that is touched has read there, and one that has is touched
 --     strikes-exactly, never-stale
 -- Assumes: nothing.
-use Prim.Native.Nat.{ℕ, zero, suc, _+_, _-_, _^_, _≤_, _<_, min}
+use Prim.Native.Nat.{ℕ, zero, suc, _+_, _^_, _≤_, _<_, min, _-_}
 use native.Mathlib.Omega.{arith}
 use mathlib.Core.Path.{_≡_, refl, sym, ap, _∙_}
-use mathlib.Core.Bool.{Bool, true, false, not, _&&_}
+use mathlib.Core.Bool.{Bool, true, false, not}
 use mathlib.Core.List.{List}
 use mathlib.Core.Logic.{_⊎_, inl, inr}
 use borrow.Author.Tests.{eqb-true, eqb-false, ltb-true, ltb-false, not-true}
 use lib.Dec.{eqb, ltb}
 use lib.ListN.{length, getD}
-use Rattle.number_laws.proofs.Tests.{both, not-both}
 use Rattle.bit_fields.specs.Choice.{if_then_else_}
+use Rattle.number_laws.proofs.Tests.{both, not-both}
 use Rattle.bit_fields.proofs.ChoiceLaws.{by-test, either}
 use Rattle.ids.specs.Packing.{packed, unpacked}
 use Rattle.ids.specs.declared.Request.{Request}
 use Rattle.ids.specs.declared.Unpacked.the-variants.{Is}
 use Rattle.ids.proofs.Claims.{packing-loses-nothing}
-use Rattle.memory_image.specs.Extent.{Extent, addressTop}
+use Rattle.memory_image.specs.Extent.{Extent}
 use Rattle.memory_image.specs.declared.Piece.{Piece}
 use Rattle.answers.specs.Layout.{piecesMost}
 use Rattle.answers.specs.Pieces.{nothing}
@@ -29,7 +29,7 @@ use Rattle.book_words.specs.Layout.{slotsMost, keysFrom, blocksFrom, slotsOf, k
 use Rattle.book_words.specs.Malformed.{refusal7}
 use Rattle.book_words.proofs.WordsLaws.{same-extent}
 use Rattle.book_words.proofs.WellLaws.{first-key, first-low, held-to, well-to}
-use Rattle.book.specs.Book.{slotOf, shares, sharedFrom, touched, struckFrom, noticeSays, Asks, Noticed}
+use Rattle.book.specs.Book.{slotOf, shares, sharedFrom, touched, struckFrom, noticeSays, Asks}
 use Rattle.book.specs.declared.Asked.{Asked}
 use Rattle.book.specs.declared.Said.{Said}
 use Rattle.book.specs.declared.Said.the-variants as said

@@ -5,7 +5,7 @@
 --     later             one event more
 --     begun-sound       it holds after an accepted opening and any history
 -- Assumes: nothing.
-use Prim.Native.Nat.{ℕ, _+_, _-_, _^_, _≤_, _<_, min, max}
+use Prim.Native.Nat.{ℕ, _+_, _^_, _≤_, _<_, min, max, _-_}
 use native.Mathlib.Omega.{arith}
 use native.Mathlib.Nat.{zero-add}
 use mathlib.Core.Path.{_≡_, refl, sym, ap, _∙_}
@@ -14,8 +14,8 @@ use mathlib.Core.List.{List}
 use borrow.Author.Tests.{ltb-true, ltb-false, eqb-true, eqb-false, leb-true, le-leb, lt-ltb}
 use lib.Dec.{eqb, leb, ltb}
 use lib.ListN.{length, getD}
-use Rattle.number_laws.proofs.Tests.{neither}
 use Rattle.bit_fields.specs.Choice.{if_then_else_}
+use Rattle.number_laws.proofs.Tests.{neither}
 use Rattle.bit_fields.proofs.ChoiceLaws.{by-test}
 use Rattle.placed.proofs.FromLaws.{values-length, values-at, values-same, values-list}
 use Rattle.ids.specs.Ids.{refusal3}
@@ -30,7 +30,7 @@ use Rattle.memory_image.specs.Rule.{Agree}
 use Rattle.memory_image.specs.Words.{bytes}
 use Rattle.memory_image.specs.declared.Piece.{Piece}
 use Rattle.answers.specs.Layout.{piecesMost}
-use Rattle.answers.specs.Pieces.{nothing, piecesOf, EachPiece}
+use Rattle.answers.specs.Pieces.{nothing, EachPiece}
 use Rattle.answers.specs.Proper.{ProperAnswer}
 use Rattle.answers.specs.declared.Outcome.{Outcome}
 use Rattle.answers.specs.declared.Pieces.{Pieces}
@@ -41,13 +41,12 @@ use Rattle.lookup.specs.Lookup.{lookedUp, answered, ruled}
 use Rattle.lookup.specs.declared.Looked.{Looked}
 use Rattle.lookup.specs.declared.Answer.the-variants as looked
 use Rattle.lookup.proofs.Claims.{depends-on-list, listed-lies, answers-proper}
-use Rattle.book_words.specs.Layout.{slotsMost, bookWords, baseAt, lengthAt, keysFrom, slotsOf, registersOf, extentHeld, keyAt, blockAt, keyOf, keptAt, openedWith, otherExtent}
-use Rattle.book_words.specs.Malformed.{refusal7}
+use Rattle.book_words.specs.Layout.{slotsMost, bookWords, baseAt, lengthAt, keysFrom, slotsOf, registersOf, extentHeld, keyAt, blockAt, keyOf, keptAt, openedWith}
 use Rattle.book_words.proofs.KeptLaws.{kept-length, kept-before, kept-key, kept-key-other, kept-block, kept-block-other}
 use Rattle.book_words.proofs.WordsLaws.{same-extent}
 use Rattle.book_words.proofs.WellLaws.{held-to, first-low, Well}
 use Rattle.book_words.proofs.KeepsLaws.{registers-same, kept-well, open-well, opened-length, opened-registers, opened-empty}
-use Rattle.book.specs.Book.{shares, struckFrom, slotOf, emptySlot, nowHolding, newLookup, openSays, noticeSays, Opened, Asks, Noticed}
+use Rattle.book.specs.Book.{shares, struckFrom, slotOf, emptySlot, nowHolding, openSays, Opened, Asks, Noticed}
 use Rattle.book.specs.declared.Asked.{Asked}
 use Rattle.book.specs.declared.Reply.{Reply}
 use Rattle.book.specs.declared.Reply.the-variants as reply

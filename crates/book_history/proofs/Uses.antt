@@ -1,31 +1,25 @@
 -- What follows from the claims: specs/Uses.antt, each from the claims that it names.
 -- Assumes: nothing.
-use Prim.Native.Nat.{ℕ, zero, suc, _+_, _-_, _≤_, _<_}
+use Prim.Native.Nat.{ℕ, zero, suc, _+_, _≤_, _<_, _-_}
 use native.Mathlib.Omega.{arith}
-use mathlib.Core.Path.{_≡_, refl, sym, ap, _∙_}
+use mathlib.Core.Path.{_≡_, refl, ap, _∙_}
 use mathlib.Core.Bool.{Bool, true, false}
-use mathlib.Core.List.{List}
 use mathlib.Core.Logic.{_⊎_, inl, inr}
-use borrow.Author.Tests.{ltb-true}
 use lib.Dec.{ltb}
 use lib.ListN.{getD, length}
 use Rattle.bit_fields.specs.Choice.{if_then_else_}
-use Rattle.ids.specs.Packing.{packed, requestOf}
-use Rattle.ids.specs.declared.Request.{Request}
-use Rattle.ids.specs.declared.Substream.the-variants.{Without, With}
+use Rattle.ids.specs.Packing.{packed}
 use Rattle.ids.proofs.Claims.{equal-words-only, one-word-each, none-is-not-zero}
 use Rattle.memory_image.specs.declared.Piece.{Piece}
 use Rattle.answers.specs.Pieces.{nothing}
 use Rattle.lookup.specs.Lookup.{lookedUp, answered, ruled}
-use Rattle.book_words.specs.Layout.{slotsMost, bookWords, keysFrom, slotsOf, keyAt, keyOf, openedWith}
+use Rattle.book_words.specs.Layout.{bookWords, slotsOf, keyAt, keyOf, openedWith}
 use Rattle.book_words.proofs.KeepsLaws.{opened-length}
 use Rattle.book_words.proofs.WellLaws.{well-to}
-use Rattle.book.specs.Book.{askResult, noticeSays, shares, Asks}
-use Rattle.book.specs.declared.Asked.{Asked}
+use Rattle.book.specs.Book.{askResult, noticeSays, shares}
 use Rattle.book.specs.declared.Reply.{Reply}
 use Rattle.book.specs.declared.Reply.the-variants as reply
-use Rattle.report.specs.Report.{Reported, reportText, reportSays}
-use Rattle.report.specs.declared.Written.{Written}
+use Rattle.report.specs.Report.{Reported, reportText}
 use Rattle.report.specs.declared.Written.the-variants as written
 use Rattle.report.proofs.Claims.{report-fits}
 use Rattle.book_history.specs.History.{State, Begun}

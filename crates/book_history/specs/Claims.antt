@@ -7,7 +7,7 @@
 --     OnlyRefusedForRoom    after an accepted opening and any history, the report is refused only where its text doesn't fit
 --     OneOpening, OneAsk, OneNotice     any two results that a promise allows for one input are equal, and so are the words afterwards
 -- Assumes: nothing.
-use Prim.Native.Nat.{ℕ, _+_, _-_, _≤_, _<_}
+use Prim.Native.Nat.{ℕ, _+_, _≤_, _<_, _-_}
 use mathlib.Core.Path.{_≡_}
 use mathlib.Core.Bool.{Bool, true, false}
 use mathlib.Core.List.{List}

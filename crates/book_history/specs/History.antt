@@ -6,8 +6,7 @@
 --     Begun       an accepted opening, of words of whatever content, and any history since
 -- A register has 32 bits and a StreamID too, as their types say: `Narrow` and `narrow` say no more.
 -- Assumes: nothing.
-use Prim.Native.Nat.{ℕ, _+_, _-_, _≤_, _<_, _^_}
-use mathlib.Core.Path.{_≡_}
+use Prim.Native.Nat.{ℕ, _+_, _<_, _^_, _-_}
 use mathlib.Core.Bool.{Bool, false, not, _&&_, _||_}
 use mathlib.Core.List.{List}
 use lib.Dec.{eqb, leb, ltb}

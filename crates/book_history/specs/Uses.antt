@@ -12,7 +12,7 @@
 --     NeverRefusedSeven             NeverMalformed: after any history, refusal 7 isn't given
 --     ReportAlwaysFits              OnlyRefusedForRoom, ReportFits: after any history a report into a buffer of reportMost bytes is written
 -- Assumes: nothing.
-use Prim.Native.Nat.{ℕ, _+_, _-_, _^_, _≤_, _<_}
+use Prim.Native.Nat.{ℕ, _+_, _^_, _≤_, _<_, _-_}
 use mathlib.Core.Path.{_≡_}
 use mathlib.Core.Bool.{true, false}
 use mathlib.Core.List.{List}

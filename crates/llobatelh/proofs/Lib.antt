@@ -1,3 +1,2 @@
 -- Laws of specs/.
 pub mod CallsLaws
-pub mod Claims

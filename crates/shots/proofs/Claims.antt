@@ -23,9 +23,8 @@ use Rattle.lookup.specs.Lookup.{lookupRule, fromSte, fromEntry, fromCd, ruled, 
 use Rattle.lookup.proofs.Claims.{refused-exactly}
 use Rattle.placed.specs.From.{valuesFrom, tab}
 use Rattle.placed.proofs.FromLaws.{values-length}
-use Rattle.book.specs.Book.{shares}
 use Rattle.shots.specs.Shots.{Shot, shots, byteOf, whole, clip, expected}
-use Rattle.shots.specs.Claims.{EachShot, Right, AllShots, RealShots, SharedSte}
+use Rattle.shots.specs.Claims.{EachShot, Right, AllShots, RealShots}
 
 pub all-shots : AllShots
 unfolding run fetched word lookupRule andThen fromSte fromEntry fromCd streamRule isLinear splitOf l1stdAt stesHeld leafRule twoLevelRule steRule notThere stage1Rule badStage1 withId contextRule leafBits cdTwoLevelRule l1cdRule cdRule effectiveIps sizeOf oasSize refusal1 refusal3
@@ -118,7 +117,3 @@ each-real (s ∷ ss) all = (real s (all .0), each-real ss (all .1))
 
 pub real-shots : RealShots
 real-shots = each-real shots all-shots
-
-pub shared-ste : SharedSte
-unfolding shares
-shared-ste = (refl, refl, refl)

@@ -1,17 +1,17 @@
 -- The claims of specs/Histories.antt, each under its own name.
 -- Assumes: nothing.
-use Prim.Native.Nat.{ℕ, zero, suc, _+_, _-_, _^_, _≤_, _<_}
+use Prim.Native.Nat.{ℕ, zero, suc, _+_, _^_, _≤_, _<_, _-_}
 use native.Mathlib.Omega.{arith}
 use native.Mathlib.Nat.{zero-add}
-use mathlib.Core.Path.{_≡_, refl, sym, ap, _∙_, fun-ext}
+use mathlib.Core.Path.{_≡_, refl, sym, ap, _∙_}
 use mathlib.Core.Bool.{Bool, true, false, not, _&&_, _||_}
 use mathlib.Core.List.{List, [], _∷_}
 use mathlib.Core.Logic.{inr}
-use borrow.Author.Tests.{eqb-true, eq-eqb, ne-eqb, lt-ltb, le-ltb, ltb-true}
+use borrow.Author.Tests.{eqb-true, eq-eqb, ne-eqb, lt-ltb, le-ltb}
 use lib.Dec.{eqb, leb, ltb}
 use lib.ListN.{length, getD}
-use Rattle.number_laws.proofs.Tests.{not-both, both}
 use Rattle.bit_fields.specs.Choice.{if_then_else_}
+use Rattle.number_laws.proofs.Tests.{not-both, both}
 use Rattle.placed.specs.From.{valuesFrom, tab}
 use Rattle.placed.proofs.FromLaws.{values-same}
 use Rattle.ids.specs.Ids.{refusal3}
@@ -24,12 +24,10 @@ use Rattle.registers.specs.declared.Registers.{Registers}
 use Rattle.memory_image.specs.Extent.{Extent, addressTop, refusal2, fetched}
 use Rattle.memory_image.specs.Rule.{Ran, run, andThen}
 use Rattle.memory_image.specs.Words.{word}
-use Rattle.memory_image.specs.declared.Piece.{Piece}
 use Rattle.answers.specs.Pieces.{piecesOf}
 use Rattle.answers.specs.Outcome.{recorded}
 use Rattle.answers.specs.declared.Outcome.{Outcome}
 use Rattle.answers.specs.declared.Outcome.the-variants.{Abort, Bypass, Quiet}
-use Rattle.answers.specs.declared.Pieces.{Pieces}
 use Rattle.answer_words.specs.AnswerWords.{laidOut, wordsOf, outcomeOf, listOf}
 use Rattle.stream_table.specs.StreamTable.{streamRule, isLinear, splitOf, l1stdAt, stesHeld, leafRule, twoLevelRule}
 use Rattle.stream_entry.specs.StreamEntry.{steRule, notThere, stage1Rule, badStage1, withId}
@@ -40,7 +38,7 @@ use Rattle.lookup.specs.declared.Looked.{Looked}
 use Rattle.lookup.specs.declared.Answer.the-variants as looked
 use Rattle.book_words.specs.Layout.{slotsMost, bookWords, keysFrom, baseOf, lengthOf, extentHeld, copied, keptAt, otherExtent, slotsOf, keyAt, keyOf, registersOf, blockAt, openedWith}
 use Rattle.book_words.specs.Malformed.{firstFrom, refusal7}
-use Rattle.book.specs.Book.{openSays, askBook, refusedWith, shares, sharedFrom, touched, strike, struckFrom, Opened, Asks, Noticed}
+use Rattle.book.specs.Book.{openSays, askBook, refusedWith, shares, sharedFrom, touched, struckFrom, Opened, Asks, Noticed}
 use Rattle.book.specs.declared.Asked.{Asked}
 use Rattle.book.specs.declared.Reply.{Reply}
 use Rattle.book.specs.declared.Reply.the-variants as reply
@@ -50,7 +48,7 @@ use Rattle.report_cells.specs.Text.{decimalText, slotText, digits}
 use Rattle.report_cells.specs.Cells.{lineText, cellsFrom, columnsOf, endingOf, cellText, headerText, keptText, streamText, substreamText, outcomeText, abortText, eventText}
 use Rattle.report.specs.Report.{reportText, linesFrom, lineAt, lineFor}
 use Rattle.report.proofs.Claims.{text-is-there, later-bytes-stay}
-use Rattle.book_history.specs.History.{State, Begun, Narrow, edit, notice, ask, start, more, within, differs, today, holding, editing, handing, noticing, asking, opening}
+use Rattle.book_history.specs.History.{State, Begun, Narrow, edit, notice, ask, start, within, differs, today, holding, editing, handing, noticing, asking, opening}
 use Rattle.book_history.specs.Claims.{Clean}
 use Rattle.book_history.specs.Demand3.{answerIn, lookedIn, KeptIn, Empty, NewIn}
 use Rattle.book_history.proofs.HistoryLaws.{later, begun-sound}
@@ -60,36 +58,10 @@ use Rattle.book_history.proofs.Demand2.{outside-never-counts}
 use Rattle.book_history.proofs.Demand3.{never-stale, strikes-exactly, touched-to, hit}
 use Rattle.book_history.proofs.Claims.{never-malformed, header-stays, still-good, one-opening, one-ask}
 use Rattle.book_history.proofs.Uses.{never-refused-seven}
-use Rattle.shots.specs.Shots.{Shot, plain, stage1, figure, piece, translates, byteOf, clip, whole}
+use Rattle.shots.specs.Shots.{Shot, plain, stage1, figure, piece, translates, byteOf, whole}
 use Rattle.shots.specs.Claims.{Right}
-use Rattle.shots.specs.Histories.{
-  memoryOf,
-  benchMemory,
-  plainly,
-  key,
-  Keys,
-  Leaves,
-  OneAsked,
-  TwoAsked,
-  BothStruck,
-  SlotUsedAgain,
-  FullAndKept,
-  substreamed,
-  third,
-  fourth,
-  Staged,
-  threeKey,
-  fourKey,
-  ThreeAndFour,
-  says,
-  StaleCaught,
-  beside,
-  EdgesLeaveIt,
-  AboveNeverCounts,
-  sample,
-  SampleReport,
-}
-use Rattle.shots.proofs.Claims.{tab-length, tab-at, bytes-are, extent-taken, real-run, real-shots, real}
+use Rattle.shots.specs.Histories.{memoryOf, benchMemory, plainly, key, Keys, OneAsked, TwoAsked, BothStruck, SlotUsedAgain, FullAndKept, substreamed, third, fourth, Staged, ThreeAndFour, says, StaleCaught, beside, EdgesLeaveIt, AboveNeverCounts, sample, SampleReport}
+use Rattle.shots.proofs.Claims.{tab-length, tab-at, real-shots, real}
 
 -- words that a book has after some history
 record Booked (ws : List ℕ) : Type 0 where

@@ -1,17 +1,15 @@
 -- What is claimed of the shots.
---     AllShots      the rules give each shot of the table what 01 says; none is refused
+--     AllShots      the rules give each shot of the table what the rules say; none is refused
 --     RealShots     and so does a lookup in a real memory of 65,536 bytes
---     SharedSte     P10: a notice of one byte at 0x2F00 shares an address with the lists of 188 and of 256
 -- Assumes: nothing.
 use mathlib.Core.Path.{_≡_}
-use mathlib.Core.Bool.{true, false}
+use mathlib.Core.Bool.{false}
 use mathlib.Core.List.{List, [], _∷_}
 use Rattle.ids.specs.Ids.{refusal3}
 use Rattle.registers.specs.Sizes.{refusal1}
 use Rattle.lookup.specs.Lookup.{answered, lookedUp}
 use Rattle.placed.specs.From.{tab}
-use Rattle.book.specs.Book.{shares}
-use Rattle.shots.specs.Shots.{Shot, shots, piece, byteOf, given, expected}
+use Rattle.shots.specs.Shots.{Shot, shots, byteOf, given, expected}
 
 abbrev pub EachShot : (Shot → Type 0) → List Shot → Type 0
 EachShot P [] = Unit {0}
@@ -27,6 +25,3 @@ AllShots = EachShot Right shots
 
 abbrev pub RealShots : Type 0
 RealShots = EachShot (λ s. lookedUp (s .registers) 0 (tab 0x10000 (byteOf (s .memory))) (s .request) ≡ answered (expected s)) shots
-
-abbrev pub SharedSte : Type 0
-SharedSte = (shares 0x2f00 1 (piece 0x2f00 64) ≡ true) × (shares 0x2eff 1 (piece 0x2f00 64) ≡ false) × (shares 0x2f40 1 (piece 0x2f00 64) ≡ false)

@@ -1,6 +1,6 @@
--- The shots on the bench (01, "Shots on the bench"; 004's figure): one table, in 01's order.
+-- The shots on the bench (RULES, "Shots on the bench"; 004's figure): one table, in the rules' order.
 --     shots       the table: start here
---     Shot        registers, the bytes of the memory that aren't 0, a request, and the answer and list that 01 gives
+--     Shot        registers, the bytes of the memory that aren't 0, a request, and the answer and list that the rules give
 --     given       what the rules give
 -- Assumes: nothing.
 use Prim.Native.Nat.{ℕ, _+_, _*_, _^_}
@@ -123,7 +123,7 @@ whole = record { base = 0; length = 0x10000 }
 abbrev pub clip : ℕ → (ℕ → ℕ) → ℕ → ℕ
 clip n f i = if ltb i n then f i else 0
 
--- what the rules give of a shot, and what 01 says
+-- what the rules give of a shot, and what they say of it on the bench
 abbrev pub given : Shot → Ran Outcome
 given s = run whole (2 ^ oasSize (s .registers)) (clip 0x10000 (byteOf (s .memory))) (lookupRule (s .registers) (s .request))
 
