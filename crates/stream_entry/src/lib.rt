@@ -60,15 +60,15 @@ fn bad_stage1(registers: Registers, memory: &[u8], place: usize) -> bool
     fields::s1_dss(memory, place) == 3
 }
 
-// Step 8, by S1CDMax, with a SubstreamID.
-fn with_id(max: u64, memory: &[u8], place: usize, n: u64) -> Entry
-    requires { ⌜ max < 32 ⌝ }
-    ensures { λ r. ⌜ r ≡ withId max (wordOf (now (memory .entry)) place) n ⌝ }
+// Step 8, with a SubstreamID and a table for so many bits of them (S1CDMax).
+fn with_id(bits: u64, memory: &[u8], place: usize, n: u64) -> Entry
+    requires { ⌜ bits < 32 ⌝ }
+    ensures { λ r. ⌜ r ≡ withId bits (wordOf (now (memory .entry)) place) n ⌝ }
 {
-    if max == 0 {
+    if bits == 0 {
         return Entry::Ended(Outcome::Abort(answers::C_BAD_SUBSTREAMID));
     }
-    if !in_bits(n, max) {
+    if !in_bits(n, bits) {
         return Entry::Ended(Outcome::Abort(answers::C_BAD_SUBSTREAMID));
     }
     if both(n == 0, fields::s1_dss(memory, place) == 2) {
