@@ -65,7 +65,7 @@ module _ (base : ℕ) (memory : List ℕ) (r : Registers) (ws : List ℕ) where
         (read-one base memory (pointer + 8 * above) 1 is ws (Ended (Abort fCdFetch)) (λ entry. l1cdRule r leaf entry index)
         (omega arith) had read push says)
 
-  module _ (w : ℕ → ℕ) (index : ℕ) {pointer max : ℕ} (is-pointer : pointer ≡ s1ContextPtr w) (is-max : max ≡ s1CdMax w) where
+  module _ (w : ℕ → ℕ) (index : ℕ) {pointer max : ℕ} (is-pointer : pointer ≡ s1ContextPtr w) (is-max : max ≡ s1CdMax r w) where
     pub find-alone : max ≡ 0 → Goes (contextRule r w index) (Cd pointer) ws
     unfolding contextRule
     find-alone none = simp (← is-max, eq-eqb _ _ none) (walk-done base memory (ap Cd is-pointer) ws)
@@ -100,7 +100,7 @@ module _ (r : Registers) (w : ℕ → ℕ) (index : ℕ) where
       → Q (twoLevelRule r (s1ContextPtr w) (leafBits (s1Fmt w)) index) → Q (contextRule r w index)
   unfolding contextRule
   context-cases Q finished deep =
-      either Q (eqb (s1CdMax w) 0) (finished (s1ContextPtr w))
+      either Q (eqb (s1CdMax r w) 0) (finished (s1ContextPtr w))
       (either Q (eqb (s1Fmt w) 0) (finished (s1ContextPtr w + 64 * index)) deep)
 
   pub context-few : Fetches 1 (contextRule r w index)

@@ -42,6 +42,6 @@ twoLevelRule r pointer leaf index =
 -- with S1CDMax 0, S1Fmt is ignored and the one CD is at S1ContextPtr; S1Fmt 0: S1ContextPtr + 64 x index
 unfoldable pub contextRule : Registers → (ℕ → ℕ) → ℕ → Rule Found
 contextRule r w index =
-    if eqb (s1CdMax w) 0 then done (Cd (s1ContextPtr w))
+    if eqb (s1CdMax r w) 0 then done (Cd (s1ContextPtr w))
     else if eqb (s1Fmt w) 0 then done (Cd (s1ContextPtr w + 64 * index))
     else twoLevelRule r (s1ContextPtr w) (leafBits (s1Fmt w)) index

@@ -73,7 +73,7 @@ pub fn find_cd(
     ensures { λ r. ⌜ Walks base (now (memory .entry)) (contextRule registers (wordOf (now (memory .entry)) ste) index) (now (words .entry)) r (now (words .exit)) ⌝ }
 {
     let pointer = fields::s1_context_ptr(memory, ste);
-    if fields::s1_cd_max(memory, ste) == 0 {
+    if fields::s1_cd_max(registers, memory, ste) == 0 {
         return Found::Cd(pointer);
     }
     let format = fields::s1_fmt(memory, ste);

@@ -25,15 +25,15 @@ use Rattle.stream_entry.specs.StreamEntry.{s1Fmt, s1CdMax, s1Dss, strw, 
 use Rattle.stream_entry.specs.declared.Entry.{Entry}
 use Rattle.stream_entry.specs.declared.Entry.the-variants.{Ended, Stage1}
 
-module _ (r : Registers) (w : ℕ → ℕ) {max size : ℕ} (is-max : max ≡ s1CdMax w) (is-size : size ≡ ssidSize r) where
+module _ (r : Registers) (w : ℕ → ℕ) {max size : ℕ} (is-max : max ≡ s1CdMax r w) (is-size : size ≡ ssidSize r) where
   pub bad-max : size < max → true ≡ badStage1 r w
   unfolding badStage1
-  bad-max past = simp (← is-max, ← is-size, lt-ltb _ _ past)
+  bad-max past = rw (← is-max) (simp (← is-size, lt-ltb _ _ past))
 
   module _ (fits : max ≤ size) where
     pub bad-none : max ≡ 0 → false ≡ badStage1 r w
     unfolding badStage1
-    bad-none none = let empty : max ≤ 0 = omega arith in simp (← is-max, ← is-size, le-ltb _ _ fits, le-ltb _ _ empty)
+    bad-none none = let empty : max ≤ 0 = omega arith in rw (← is-max) (simp (← is-size, le-ltb _ _ fits, le-ltb _ _ empty))
 
     module _ (some : max ≡ 0 → ⊥) {format : ℕ} (is-format : format ≡ s1Fmt w) where
       more : 0 < max
@@ -41,72 +41,74 @@ module _ (r : Registers) (w : ℕ → ℕ) {max size : ℕ} (is-max : max ≡ s1
 
       pub bad-format : format ≡ 3 → true ≡ badStage1 r w
       unfolding badStage1
-      bad-format three = simp (← is-max, ← is-size, le-ltb _ _ fits, lt-ltb _ _ more, ← is-format, eq-eqb _ _ three)
+      bad-format three = rw (← is-max) (simp (← is-size, le-ltb _ _ fits, lt-ltb _ _ more, ← is-format, eq-eqb _ _ three))
 
       module _ (known : format ≡ 3 → ⊥) {levels : ℕ} (is-levels : levels ≡ cd2l r) {test : Bool}
           (tested : test ≡ (not (eqb format 0) && eqb levels 0)) where
         pub bad-levels : test ≡ true → true ≡ badStage1 r w
         unfolding badStage1
         bad-levels is-so =
-            simp
-            (← is-max, ← is-size, le-ltb _ _ fits, lt-ltb _ _ more, ← is-format, ne-eqb _ _ known, ← is-levels, ← tested, is-so)
+            rw (← is-max)
+            (simp
+            (← is-size, le-ltb _ _ fits, lt-ltb _ _ more, ← is-format, ne-eqb _ _ known, ← is-levels, ← tested, is-so))
 
         pub bad-dss : test ≡ false → {dss : ℕ} → dss ≡ s1Dss w → eqb dss 3 ≡ badStage1 r w
         unfolding badStage1
         bad-dss is-not is-dss =
-            simp
-            (← is-max, ← is-size, le-ltb _ _ fits, lt-ltb _ _ more, ← is-format, ne-eqb _ _ known, ← is-levels, ← tested, is-not, ← is-dss)
+            rw (← is-max)
+            (simp
+            (← is-size, le-ltb _ _ fits, lt-ltb _ _ more, ← is-format, ne-eqb _ _ known, ← is-levels, ← tested, is-not, ← is-dss))
 
 -- S1CDMax has five bits, so an index below 2^S1CDMax has 31
-pub with-narrow : (w : ℕ → ℕ) (n : ℕ) {max : ℕ} {fits : Bool} → max ≡ s1CdMax w → fits ≡ inBits n max → not fits ≡ false → n < 2 ^ 32
-with-narrow w n {max} {fits} is test inside =
+pub with-narrow : (n : ℕ) {max : ℕ} {fits : Bool} → max < 32 → fits ≡ inBits n max → not fits ≡ false → n < 2 ^ 32
+with-narrow n {max} {fits} few test inside =
     let most : max ≤ 31 = omega arith in
     let more : 2 ^ max ≤ 2 ^ 31 = pow-mono most in
     let small : n < 2 ^ max = ltb-true n (2 ^ max) (sym test ∙ not-false fits inside) in
     omega arith
 
-module _ (w : ℕ → ℕ) (n : ℕ) {max : ℕ} (is-max : max ≡ s1CdMax w) where
-  pub with-none : max ≡ 0 → Ended (Abort 8) ≡ withId w n
+module _ (max : ℕ) (w : ℕ → ℕ) (n : ℕ) where
+  pub with-none : max ≡ 0 → Ended (Abort 8) ≡ withId max w n
   unfolding withId
-  with-none none = simp (← is-max, eq-eqb _ _ none)
+  with-none none = simp (eq-eqb _ _ none)
 
   module _ (some : max ≡ 0 → ⊥) {fits : Bool} (test : fits ≡ inBits n max) where
-    pub with-past : not fits ≡ true → Ended (Abort 8) ≡ withId w n
+    pub with-past : not fits ≡ true → Ended (Abort 8) ≡ withId max w n
     unfolding withId
     with-past out =
         let past : 2 ^ max ≤ n = ltb-false n (2 ^ max) (sym test ∙ not-true fits out) in
-        simp (← is-max, ne-eqb _ _ some, le-leb _ _ past)
+        simp (ne-eqb _ _ some, le-leb _ _ past)
 
     module _ (inside : not fits ≡ false) {dss : ℕ} (is-dss : dss ≡ s1Dss w) {both : Bool}
         (tested : both ≡ (eqb n 0 && eqb dss 2)) where
       small : n < 2 ^ max
       small = ltb-true n (2 ^ max) (sym test ∙ not-false fits inside)
 
-      pub with-disabled : both ≡ true → Ended (Abort 6) ≡ withId w n
+      pub with-disabled : both ≡ true → Ended (Abort 6) ≡ withId max w n
       unfolding withId
-      with-disabled is-so = simp (← is-max, ne-eqb _ _ some, lt-leb _ _ small, ← is-dss, ← tested, is-so)
+      with-disabled is-so = simp (ne-eqb _ _ some, lt-leb _ _ small, ← is-dss, ← tested, is-so)
 
-      pub with-cd : both ≡ false → Stage1 n ≡ withId w n
+      pub with-cd : both ≡ false → Stage1 n ≡ withId max w n
       unfolding withId
-      with-cd is-not = simp (← is-max, ne-eqb _ _ some, lt-leb _ _ small, ← is-dss, ← tested, is-not)
+      with-cd is-not = simp (ne-eqb _ _ some, lt-leb _ _ small, ← is-dss, ← tested, is-not)
 
-module _ (w : ℕ → ℕ) (address : ℕ) {max : ℕ} (is-max : max ≡ s1CdMax w) where
-  pub without-alone : max ≡ 0 → Stage1 0 ≡ withoutId w address
+module _ (max : ℕ) (w : ℕ → ℕ) (address : ℕ) where
+  pub without-alone : max ≡ 0 → Stage1 0 ≡ withoutId max w address
   unfolding withoutId
-  without-alone none = simp (← is-max, eq-eqb _ _ none)
+  without-alone none = simp (eq-eqb _ _ none)
 
   module _ (some : max ≡ 0 → ⊥) {dss : ℕ} (is-dss : dss ≡ s1Dss w) where
-    pub without-disabled : dss ≡ 0 → Ended (Abort 6) ≡ withoutId w address
+    pub without-disabled : dss ≡ 0 → Ended (Abort 6) ≡ withoutId max w address
     unfolding withoutId
-    without-disabled zero = simp (← is-max, ne-eqb _ _ some, ← is-dss, zero)
+    without-disabled zero = simp (ne-eqb _ _ some, ← is-dss, zero)
 
-    pub without-bypass : dss ≡ 1 → Ended (Bypass address) ≡ withoutId w address
+    pub without-bypass : dss ≡ 1 → Ended (Bypass address) ≡ withoutId max w address
     unfolding withoutId
-    without-bypass one = simp (← is-max, ne-eqb _ _ some, ← is-dss, one)
+    without-bypass one = simp (ne-eqb _ _ some, ← is-dss, one)
 
-    pub without-cd : (dss ≡ 0 → ⊥) → (dss ≡ 1 → ⊥) → Stage1 0 ≡ withoutId w address
+    pub without-cd : (dss ≡ 0 → ⊥) → (dss ≡ 1 → ⊥) → Stage1 0 ≡ withoutId max w address
     unfolding withoutId
-    without-cd not-zero not-one = simp (← is-max, ne-eqb _ _ some, ← is-dss, ne-eqb _ _ not-zero, ne-eqb _ _ not-one)
+    without-cd not-zero not-one = simp (ne-eqb _ _ some, ← is-dss, ne-eqb _ _ not-zero, ne-eqb _ _ not-one)
 
 module _ (r : Registers) (substream : Substream) (address : ℕ) (w : ℕ → ℕ) {bad : Bool} (is-bad : bad ≡ badStage1 r w) where
   pub stage-bad : bad ≡ true → Ended (Abort 4) ≡ stage1Rule r substream address w
@@ -119,38 +121,38 @@ module _ (r : Registers) (substream : Substream) (address : ℕ) (w : ℕ → �
     unfolding stage1Rule
     stage-world is-so = simp (← is-bad, good, ← is-hyp, ← is-world, ← tested, is-so)
 
-    module _ (served : above ≡ false) {entry : Entry} where
-      pub stage-without : substream ≡ Without → entry ≡ withoutId w address → entry ≡ stage1Rule r substream address w
+    module _ (served : above ≡ false) {max : ℕ} (is-max : max ≡ s1CdMax r w) {entry : Entry} where
+      pub stage-without : substream ≡ Without → entry ≡ withoutId max w address → entry ≡ stage1Rule r substream address w
       unfolding stage1Rule
-      stage-without none is = rw (is, none) (simp (← is-bad, good, ← is-hyp, ← is-world, ← tested, served))
+      stage-without none is = rw (is, none, is-max) (simp (← is-bad, good, ← is-hyp, ← is-world, ← tested, served))
 
-      pub stage-with : {id : SubstreamId} → substream ≡ With id → entry ≡ withId w (id .number) → entry ≡ stage1Rule r substream address w
+      pub stage-with : {id : SubstreamId} → substream ≡ With id → entry ≡ withId max w (id .number) → entry ≡ stage1Rule r substream address w
       unfolding stage1Rule
-      stage-with one is = rw (is, one) (simp (← is-bad, good, ← is-hyp, ← is-world, ← tested, served))
+      stage-with one is = rw (is, one, is-max) (simp (← is-bad, good, ← is-hyp, ← is-world, ← tested, served))
 
 -- where it ends, it ends with a proper outcome
 abbrev pub EndsProper : Entry → Type 0
 EndsProper (Stage1 index) = Unit {0}
 EndsProper (Ended outcome) = properOutcome outcome ≡ true
 
-with-proper : (w : ℕ → ℕ) (n : ℕ) → EndsProper (withId w n)
+with-proper : (max : ℕ) (w : ℕ → ℕ) (n : ℕ) → EndsProper (withId max w n)
 unfolding withId properOutcome listedEvent
-with-proper w n =
-    either EndsProper (eqb (s1CdMax w) 0 || leb (2 ^ s1CdMax w) n) refl
+with-proper max w n =
+    either EndsProper (eqb max 0 || leb (2 ^ max) n) refl
     (either EndsProper (eqb n 0 && eqb (s1Dss w) 2) refl tt)
 
-without-proper : (w : ℕ → ℕ) (address : ℕ) → EndsProper (withoutId w address)
+without-proper : (max : ℕ) (w : ℕ → ℕ) (address : ℕ) → EndsProper (withoutId max w address)
 unfolding withoutId properOutcome listedEvent
-without-proper w address =
-    either EndsProper (eqb (s1CdMax w) 0) tt
+without-proper max w address =
+    either EndsProper (eqb max 0) tt
     (either EndsProper (eqb (s1Dss w) 0) refl (either EndsProper (eqb (s1Dss w) 1) refl tt))
 
-substream-proper : (w : ℕ → ℕ) (substream : Substream) (address : ℕ) → EndsProper (substreamRule w substream address)
-substream-proper w Without address = without-proper w address
-substream-proper w (With id) address = with-proper w (id .number)
+substream-proper : (max : ℕ) (w : ℕ → ℕ) (substream : Substream) (address : ℕ) → EndsProper (substreamRule max w substream address)
+substream-proper max w Without address = without-proper max w address
+substream-proper max w (With id) address = with-proper max w (id .number)
 
 pub stage-proper : (r : Registers) (substream : Substream) (address : ℕ) (w : ℕ → ℕ) → EndsProper (stage1Rule r substream address w)
 unfolding stage1Rule properOutcome listedEvent listedCase
 stage-proper r substream address w =
     either EndsProper (badStage1 r w) refl
-    (either EndsProper (eqb (hyp r) 1 && not (eqb (strw w) 0)) refl (substream-proper w substream address))
+    (either EndsProper (eqb (hyp r) 1 && not (eqb (strw w) 0)) refl (substream-proper (s1CdMax r w) w substream address))

@@ -3,7 +3,8 @@
 --     v .. strw        the fields, by 003's names
 --     badStage1        step 6
 --     withId, withoutId    step 8, with a SubstreamID and without one: how the lookup ends, or the index of its CD
--- Ours: Config 100 with a SubstreamID is C_BAD_SUBSTREAMID (5); the checks of step 6 as they stand: 003 calls S1Fmt 3 and S1DSS 3 "behaves as 0".
+-- Ours: Config 100 with a SubstreamID is C_BAD_SUBSTREAMID (5). S1Fmt, S1DSS and S1CDMax are read as stored, which the checks of step 6 need; 003
+-- has 3 behave as 0 in the first two (`% 3`), and ignores S1CDMax where SSIDSIZE is 0. Every rule reads them by these definitions.
 -- Assumes: nothing.
 use Prim.Native.Nat.{ℕ, _*_, _^_}
 use mathlib.Core.Bool.{Bool, not, _&&_, _||_}
@@ -33,8 +34,8 @@ s1Fmt w = bitsOf 5 4 w
 abbrev pub s1ContextPtr : (ℕ → ℕ) → ℕ
 s1ContextPtr w = bitsOf 55 6 w * 2 ^ 6
 
-abbrev pub s1CdMax : (ℕ → ℕ) → ℕ
-s1CdMax w = bitsOf 63 59 w
+abbrev pub s1CdMax : Registers → (ℕ → ℕ) → ℕ
+s1CdMax r w = bitsOf 63 59 w
 
 abbrev pub s1Dss : (ℕ → ℕ) → ℕ
 s1Dss w = bitsOf 65 64 w
@@ -56,8 +57,8 @@ notThere r c = (stage1In c && eqb (s1p r) 0) || (stage2In c && eqb (s2p r) 0)
 -- 6. S1CDMax above SSIDSIZE; S1CDMax above 0 and (S1Fmt 3, or S1Fmt not 0 with CD2L 0, or S1DSS 3)
 unfoldable pub badStage1 : Registers → (ℕ → ℕ) → Bool
 badStage1 r w =
-    ltb (ssidSize r) (s1CdMax w)
-    || (ltb 0 (s1CdMax w)
+    ltb (ssidSize r) (s1CdMax r w)
+    || (ltb 0 (s1CdMax r w)
     && (eqb (s1Fmt w) 3 || ((not (eqb (s1Fmt w) 0) && eqb (cd2l r) 0) || eqb (s1Dss w) 3)))
 
 -- 5. Config 100: with a SubstreamID, C_BAD_SUBSTREAMID; without, bypass
@@ -65,31 +66,31 @@ abbrev pub bypassRule : Substream → ℕ → Outcome
 bypassRule Without address = Bypass address
 bypassRule (With id) address = Abort cBadSubstreamId
 
--- 8. with a SubstreamID
-unfoldable pub withId : (ℕ → ℕ) → ℕ → Entry
-withId w n =
-    if eqb (s1CdMax w) 0 || leb (2 ^ s1CdMax w) n then Ended (Abort cBadSubstreamId)
+-- 8. by S1CDMax, with a SubstreamID
+unfoldable pub withId : ℕ → (ℕ → ℕ) → ℕ → Entry
+withId max w n =
+    if eqb max 0 || leb (2 ^ max) n then Ended (Abort cBadSubstreamId)
     else if eqb n 0 && eqb (s1Dss w) 2 then Ended (Abort fStreamDisabled)
     else Stage1 n
 
 -- 8. without one: S1CDMax above 0 and S1DSS 0 gives F_STREAM_DISABLED, 1 bypass, 2 uses CD 0
-unfoldable pub withoutId : (ℕ → ℕ) → ℕ → Entry
-withoutId w address =
-    if eqb (s1CdMax w) 0 then Stage1 0
+unfoldable pub withoutId : ℕ → (ℕ → ℕ) → ℕ → Entry
+withoutId max w address =
+    if eqb max 0 then Stage1 0
     else if eqb (s1Dss w) 0 then Ended (Abort fStreamDisabled)
     else if eqb (s1Dss w) 1 then Ended (Bypass address)
     else Stage1 0
 
-abbrev pub substreamRule : (ℕ → ℕ) → Substream → ℕ → Entry
-substreamRule w Without address = withoutId w address
-substreamRule w (With id) address = withId w (id .number)
+abbrev pub substreamRule : ℕ → (ℕ → ℕ) → Substream → ℕ → Entry
+substreamRule max w Without address = withoutId max w address
+substreamRule max w (With id) address = withId max w (id .number)
 
 -- 6 to 8, of a stream with stage 1 alone
 unfoldable pub stage1Rule : Registers → Substream → ℕ → (ℕ → ℕ) → Entry
 stage1Rule r substream address w =
     if badStage1 r w then Ended (Abort cBadSte)  -- 6
     else if eqb (hyp r) 1 && not (eqb (strw w) 0) then Ended (Unserved streamWorld)  -- 7
-    else substreamRule w substream address  -- 8
+    else substreamRule (s1CdMax r w) w substream address  -- 8
 
 -- the STE at an address, by its words
 unfoldable pub steRule : Registers → Substream → ℕ → (ℕ → ℕ) → Entry

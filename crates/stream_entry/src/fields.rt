@@ -5,6 +5,7 @@ ghost use Rattle.memory_image.specs.Words.{wordOf};
 ghost use Rattle.stream_entry.specs.StreamEntry as ste;
 use bit_fields::field;
 use memory_image::word_of;
+use registers::Registers;
 
 // V: the STE is valid.
 pub fn v(memory: &[u8], place: usize) -> u64
@@ -35,8 +36,8 @@ pub fn s1_context_ptr(memory: &[u8], place: usize) -> u64
 }
 
 // S1CDMax: how many bits of SubstreamIDs the CD table has.
-pub fn s1_cd_max(memory: &[u8], place: usize) -> u64
-    ensures { λ r. ⌜ r ≡ ste.s1CdMax (wordOf (now (memory .entry)) place) ⌝ }
+pub fn s1_cd_max(registers: Registers, memory: &[u8], place: usize) -> u64
+    ensures { λ r. ⌜ r ≡ ste.s1CdMax registers (wordOf (now (memory .entry)) place) ⌝ }
 {
     field(word_of(memory, place, 0), 59, 5)
 }

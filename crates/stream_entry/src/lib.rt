@@ -1,6 +1,7 @@
 // What an STE says. Start at `read_ste`.
 // Meets specs/StreamEntry.antt; the STE is handed over as its place in the memory, and its fields are in fields.rt.
 ghost use mathlib.Core.Path.{_≡_};
+ghost use Prim.Native.Nat.{_<_};
 ghost use Rattle.memory_image.specs.Words.{wordOf};
 ghost use Rattle.stream_entry.specs.StreamEntry.{badStage1, bypassRule, notThere, stage1Rule, steRule, withId, withoutId};
 use answers::Outcome;
@@ -42,7 +43,7 @@ fn bypass(substream: Substream, address: u64) -> Outcome
 fn bad_stage1(registers: Registers, memory: &[u8], place: usize) -> bool
     ensures { λ r. ⌜ r ≡ badStage1 registers (wordOf (now (memory .entry)) place) ⌝ }
 {
-    let max = fields::s1_cd_max(memory, place);
+    let max = fields::s1_cd_max(registers, memory, place);
     if registers.ssid_size() < max {
         return true;
     }
@@ -59,15 +60,15 @@ fn bad_stage1(registers: Registers, memory: &[u8], place: usize) -> bool
     fields::s1_dss(memory, place) == 3
 }
 
-// Step 8, with a SubstreamID.
-fn with_id(memory: &[u8], place: usize, n: u64) -> Entry
-    ensures { λ r. ⌜ r ≡ withId (wordOf (now (memory .entry)) place) n ⌝ }
+// Step 8, with a SubstreamID and a table for so many bits of them (S1CDMax).
+fn with_id(bits: u64, memory: &[u8], place: usize, n: u64) -> Entry
+    requires { ⌜ bits < 32 ⌝ }
+    ensures { λ r. ⌜ r ≡ withId bits (wordOf (now (memory .entry)) place) n ⌝ }
 {
-    let max = fields::s1_cd_max(memory, place);
-    if max == 0 {
+    if bits == 0 {
         return Entry::Ended(Outcome::Abort(answers::C_BAD_SUBSTREAMID));
     }
-    if !in_bits(n, max) {
+    if !in_bits(n, bits) {
         return Entry::Ended(Outcome::Abort(answers::C_BAD_SUBSTREAMID));
     }
     if both(n == 0, fields::s1_dss(memory, place) == 2) {
@@ -78,10 +79,10 @@ fn with_id(memory: &[u8], place: usize, n: u64) -> Entry
 }
 
 // Step 8, without one.
-fn without_id(memory: &[u8], place: usize, address: u64) -> Entry
-    ensures { λ r. ⌜ r ≡ withoutId (wordOf (now (memory .entry)) place) address ⌝ }
+fn without_id(max: u64, memory: &[u8], place: usize, address: u64) -> Entry
+    ensures { λ r. ⌜ r ≡ withoutId max (wordOf (now (memory .entry)) place) address ⌝ }
 {
-    if fields::s1_cd_max(memory, place) == 0 {
+    if max == 0 {
         return Entry::Stage1(0);
     }
     let dss = fields::s1_dss(memory, place);
@@ -108,9 +109,10 @@ fn stage1(
     if both(registers.hyp() == 1, fields::strw(memory, place) != 0) {
         return Entry::Ended(Outcome::Unserved(answers::STREAM_WORLD));
     }
+    let max = fields::s1_cd_max(registers, memory, place);
     match substream {
-        Substream::Without => without_id(memory, place, address),
-        Substream::With(id) => with_id(memory, place, id.number),
+        Substream::Without => without_id(max, memory, place, address),
+        Substream::With(id) => with_id(max, memory, place, id.number),
     }
 }
 

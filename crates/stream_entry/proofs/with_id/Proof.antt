@@ -24,7 +24,6 @@ pub with-id-spec : {M : Type 1} → statement M
 with-id-spec =
     tie.close
     (tie.spec
-    (λ c κs. search needs)
     returns
     (λ c κs. search needs)
     returns-2

@@ -19,4 +19,4 @@ returns-4 c = search (needs, without-cd)
 
 pub without-id-spec : {M : Type 1} → statement M
 without-id-spec =
-    tie.close (tie.spec (λ c κs. search needs) returns (λ c κs. search needs) returns-2 returns-3 returns-4)
+    tie.close (tie.spec returns (λ c κs. search needs) returns-2 returns-3 returns-4)
