@@ -18,10 +18,10 @@ loop-holds : tie.Need-loop-holds Inv-loop μ-loop
 loop-holds c = copied-none _
 
 loop-again : tie.Need-loop-again Inv-loop μ-loop
-loop-again c = search (needs, copied-more)
+loop-again c = search copied-more
 
 returns : tie.Need-returns Inv-loop μ-loop
-returns c = search (needs, copied-put)
+returns c = search copied-put
 
 pub give-spec : {M : Type 1} → statement M
 give-spec =

@@ -6,16 +6,16 @@ use Rattle.answer_words.proofs.is_answer.Statement.{statement}
 use Rattle.answer_words.proofs.is_answer.Tie as tie
 
 returns : tie.Need-returns
-returns c = search (needs, low-kind)
+returns c = search low-kind
 
 returns-2 : tie.Need-returns-2
-returns-2 c = search (needs, high-kind)
+returns-2 c = search high-kind
 
 returns-3 : tie.Need-returns-3
-returns-3 c = search (needs, outcome-unfit)
+returns-3 c = search outcome-unfit
 
 returns-4 : tie.Need-returns-4
-returns-4 c = search (needs, list-decides)
+returns-4 c = search list-decides
 
 pub is-answer-spec : {M : Type 1} → statement M
 is-answer-spec =

@@ -2,7 +2,6 @@
 -- Assumes: nothing.
 use Prim.Native.Nat.{_-_}
 use native.Mathlib.Omega.{arith}
-use borrow.Author.Needs.{needs}
 use Rattle.answers.specs.Layout.{piecesMost}
 use Rattle.answer_words.proofs.ListLaws.{Taken, taken-none, taken-more, taken-all}
 use Rattle.answer_words.proofs.list_of.Statement.{statement}
@@ -18,10 +17,10 @@ loop-holds : tie.Need-loop-holds Inv-loop μ-loop
 loop-holds c = taken-none _
 
 loop-again : tie.Need-loop-again Inv-loop μ-loop
-loop-again c = search (needs, taken-more)
+loop-again c = search taken-more
 
 returns : tie.Need-returns Inv-loop μ-loop
-returns c = search (needs, taken-all)
+returns c = search taken-all
 
 pub list-of-spec : {M : Type 1} → statement M
 list-of-spec =

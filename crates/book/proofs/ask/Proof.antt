@@ -6,7 +6,7 @@ use Rattle.book.proofs.ask.Statement.{statement}
 use Rattle.book.proofs.ask.Tie as tie
 
 returns : tie.Need-returns
-returns c = search (needs, ask-told)
+returns c = search ask-told
 
 pub ask-spec : {M : Type 1} → statement M
 ask-spec =

@@ -6,16 +6,16 @@ use Rattle.book.proofs.notice.Statement.{statement}
 use Rattle.book.proofs.notice.Tie as tie
 
 returns : tie.Need-returns
-returns c = search (needs, notice-malformed)
+returns c = search notice-malformed
 
 returns-2 : tie.Need-returns-2
-returns-2 c = search (needs, notice-start)
+returns-2 c = search notice-start
 
 returns-3 : tie.Need-returns-3
-returns-3 c = search (needs, notice-end)
+returns-3 c = search notice-end
 
 returns-4 : tie.Need-returns-4
-returns-4 c = search (needs, notice-done)
+returns-4 c = search notice-done
 
 pub notice-spec : {M : Type 1} → statement M
 notice-spec =

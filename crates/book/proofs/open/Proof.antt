@@ -6,19 +6,19 @@ use Rattle.book.proofs.open.Statement.{statement}
 use Rattle.book.proofs.open.Tie as tie
 
 returns : tie.Need-returns
-returns c = search (needs, open-first)
+returns c = search open-first
 
 returns-2 : tie.Need-returns-2
-returns-2 c = search (needs, open-second)
+returns-2 c = search open-second
 
 returns-3 : tie.Need-returns-3
-returns-3 c = search (needs, open-none)
+returns-3 c = search open-none
 
 returns-4 : tie.Need-returns-4
-returns-4 c = search (needs, open-many)
+returns-4 c = search open-many
 
 returns-5 : tie.Need-returns-5
-returns-5 c = search (needs, open-done)
+returns-5 c = search open-done
 
 pub open-spec : {M : Type 1} → statement M
 open-spec =

@@ -22,10 +22,10 @@ loop-holds : tie.Need-loop-holds Inv-loop μ-loop
 loop-holds c = (omega arith, (search needs, filled-none _ answerWords))
 
 loop-again : tie.Need-loop-again Inv-loop μ-loop
-loop-again c = (omega arith, (search needs, search (needs, filled-more)))
+loop-again c = (omega arith, (search needs, search filled-more))
 
 returns : tie.Need-returns Inv-loop μ-loop
-returns c = search (needs, block-is)
+returns c = search block-is
 
 pub block-spec : {M : Type 1} → statement M
 block-spec =

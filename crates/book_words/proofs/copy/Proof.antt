@@ -1,6 +1,5 @@
 -- Proof of `book_words::copy`: what is left to copy is the whole of it.
 -- Assumes: nothing.
-use borrow.Author.Needs.{needs}
 use native.Mathlib.Omega.{arith}
 use Prim.Native.Nat.{_≤_, _-_}
 use mathlib.Core.Path.{_≡_, refl}
@@ -18,10 +17,10 @@ abbrev μ-loop : tie.MeasureT-loop
 μ-loop book₀ b block j₀ book j = answerWords - j
 
 loop-again : tie.Need-loop-again Inv-loop μ-loop
-loop-again c = (omega arith, search (needs, copy-more))
+loop-again c = (omega arith, search copy-more)
 
 returns : tie.Need-returns Inv-loop μ-loop
-returns c = search (needs, copy-end)
+returns c = search copy-end
 
 pub copy-spec : {M : Type 1} → statement M
 copy-spec =

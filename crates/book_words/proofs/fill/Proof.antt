@@ -21,7 +21,7 @@ loop-holds : tie.Need-loop-holds Inv-loop μ-loop
 loop-holds c = (omega arith, (search needs, opening-starts _ _ _))
 
 loop-again : tie.Need-loop-again Inv-loop μ-loop
-loop-again c = (omega arith, (search needs, search (needs, opening-more)))
+loop-again c = (omega arith, (search needs, search opening-more))
 
 returns : tie.Need-returns Inv-loop μ-loop
 returns c = opening-ends _ _ _ (c .before .loop .inv .1 .1) (omega arith) (omega arith)

@@ -1,6 +1,5 @@
 -- Proof of `book_words::first_from`: what is left of the search is the whole of it.
 -- Assumes: nothing.
-use borrow.Author.Needs.{needs}
 use native.Mathlib.Omega.{arith}
 use Prim.Native.Nat.{_≤_, _-_}
 use native.Mathlib.Nat.{sub-zero}
@@ -20,13 +19,13 @@ loop-holds : tie.Need-loop-holds Inv-loop μ-loop
 loop-holds c = (omega arith, rw sub-zero)
 
 returns : tie.Need-returns Inv-loop μ-loop
-returns c = (search (needs, first-found), omega arith)
+returns c = (search first-found, omega arith)
 
 loop-again : tie.Need-loop-again Inv-loop μ-loop
-loop-again c = (omega arith, search (needs, first-more))
+loop-again c = (omega arith, search first-more)
 
 returns-2 : tie.Need-returns-2 Inv-loop μ-loop
-returns-2 c = (search (needs, first-none), omega arith)
+returns-2 c = (search first-none, omega arith)
 
 pub first-from-spec : {M : Type 1} → statement M
 first-from-spec =

@@ -6,7 +6,7 @@ use Rattle.book_words.proofs.is_other.Statement.{statement}
 use Rattle.book_words.proofs.is_other.Tie as tie
 
 returns : tie.Need-returns
-returns c = search (needs, other-is)
+returns c = search other-is
 
 pub is-other-spec : {M : Type 1} → statement M
 is-other-spec = tie.close (tie.spec (λ c. search needs) (λ c. search needs) (λ c κs. search needs) returns)

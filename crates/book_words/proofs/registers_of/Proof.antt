@@ -22,10 +22,10 @@ loop-holds : tie.Need-loop-holds Inv-loop μ-loop
 loop-holds c = (omega arith, filled-none _ registerWords)
 
 loop-again : tie.Need-loop-again Inv-loop μ-loop
-loop-again c = (omega arith, search (needs, filled-more))
+loop-again c = (omega arith, search filled-more)
 
 returns : tie.Need-returns Inv-loop μ-loop
-returns c = search (needs, registers-is)
+returns c = search registers-is
 
 pub registers-of-spec : {M : Type 1} → statement M
 registers-of-spec =

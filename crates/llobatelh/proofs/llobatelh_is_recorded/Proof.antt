@@ -6,10 +6,10 @@ use Rattle.llobatelh.proofs.llobatelh_is_recorded.Statement.{statement}
 use Rattle.llobatelh.proofs.llobatelh_is_recorded.Tie as tie
 
 returns : tie.Need-returns
-returns c = search (needs, recorded-so)
+returns c = search recorded-so
 
 returns-2 : tie.Need-returns-2
-returns-2 c = search (needs, recorded-not)
+returns-2 c = search recorded-not
 
 pub llobatelh-is-recorded-spec : {M : Type 1} → statement M
 llobatelh-is-recorded-spec =

@@ -6,10 +6,10 @@ use Rattle.llobatelh.proofs.llobatelh_ste_part.Statement.{statement}
 use Rattle.llobatelh.proofs.llobatelh_ste_part.Tie as tie
 
 returns : tie.Need-returns
-returns c = search (needs, part-at)
+returns c = search part-at
 
 returns-2 : tie.Need-returns-2
-returns-2 c = search (needs, part-none)
+returns-2 c = search part-none
 
 pub llobatelh-ste-part-spec : {M : Type 1} → statement M
 llobatelh-ste-part-spec =

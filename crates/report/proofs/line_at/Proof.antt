@@ -6,13 +6,13 @@ use Rattle.report.proofs.line_at.Statement.{statement}
 use Rattle.report.proofs.line_at.Tie as tie
 
 returns : tie.Need-returns
-returns c = search (needs, no-line)
+returns c = search no-line
 
 returns-2 : tie.Need-returns-2
-returns-2 c = search (needs, kept-line)
+returns-2 c = search kept-line
 
 returns-3 : tie.Need-returns-3
-returns-3 c = search (needs, no-request)
+returns-3 c = search no-request
 
 pub line-at-spec : {M : Type 1} → statement M
 line-at-spec =

@@ -17,16 +17,16 @@ abbrev μ-loop : tie.MeasureT-loop
 μ-loop book out₀ at slots to₀ i₀ out to i = slots - i
 
 loop-holds : tie.Need-loop-holds Inv-loop μ-loop
-loop-holds c = (omega arith, omega arith, search (needs, lines-start))
+loop-holds c = (omega arith, omega arith, search lines-start)
 
 put-line-requires : tie.Need-put-line-requires Inv-loop μ-loop
-put-line-requires c κs = search (needs, line-room)
+put-line-requires c κs = search line-room
 
 loop-again : tie.Need-loop-again Inv-loop μ-loop
-loop-again c = (omega arith, omega arith, search (needs, line-more))
+loop-again c = (omega arith, omega arith, search line-more)
 
 returns : tie.Need-returns Inv-loop μ-loop
-returns c = search (needs, lines-put)
+returns c = search lines-put
 
 pub put-lines-spec : {M : Type 1} → statement M
 put-lines-spec =

@@ -7,22 +7,22 @@ use Rattle.report.proofs.report.Statement.{statement}
 use Rattle.report.proofs.report.Tie as tie
 
 returns : tie.Need-returns
-returns c = search (needs, report-malformed)
+returns c = search report-malformed
 
 text-length-requires : tie.Need-text-length-requires
-text-length-requires c κs = search (needs, few-slots)
+text-length-requires c κs = search few-slots
 
 returns-2 : tie.Need-returns-2
-returns-2 c = search (needs, report-short)
+returns-2 c = search report-short
 
 put-line-requires : tie.Need-put-line-requires
-put-line-requires c κs = search (needs, header-room)
+put-line-requires c κs = search header-room
 
 put-lines-requires : tie.Need-put-lines-requires
-put-lines-requires c κs = search (needs, few-slots, lines-room)
+put-lines-requires c κs = search (few-slots, lines-room)
 
 returns-3 : tie.Need-returns-3
-returns-3 c = search (needs, report-whole)
+returns-3 c = search report-whole
 
 pub report-spec : {M : Type 1} → statement M
 report-spec =

@@ -20,13 +20,13 @@ abbrev μ-loop : tie.MeasureT-loop
 μ-loop book slots sum₀ i₀ sum i = slots - i
 
 loop-holds : tie.Need-loop-holds Inv-loop μ-loop
-loop-holds c = (omega arith, omega arith, search (needs, text-counted), omega arith)
+loop-holds c = (omega arith, omega arith, search text-counted, omega arith)
 
 loop-again : tie.Need-loop-again Inv-loop μ-loop
-loop-again c = (omega arith, omega arith, search (needs, lines-summed), omega arith)
+loop-again c = (omega arith, omega arith, search lines-summed, omega arith)
 
 returns : tie.Need-returns Inv-loop μ-loop
-returns c = search (needs, lines-done)
+returns c = search lines-done
 
 pub text-length-spec : {M : Type 1} → statement M
 text-length-spec =

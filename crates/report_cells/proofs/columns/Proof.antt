@@ -6,13 +6,13 @@ use Rattle.report_cells.proofs.columns.Statement.{statement}
 use Rattle.report_cells.proofs.columns.Tie as tie
 
 returns : tie.Need-returns
-returns c = search (needs, columns-nothing)
+returns c = search columns-nothing
 
 returns-2 : tie.Need-returns-2
-returns-2 c = search (needs, columns-header)
+returns-2 c = search columns-header
 
 returns-3 : tie.Need-returns-3
-returns-3 c = search (needs, columns-kept)
+returns-3 c = search columns-kept
 
 pub columns-spec : {M : Type 1} → statement M
 columns-spec =

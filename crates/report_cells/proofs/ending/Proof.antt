@@ -6,10 +6,10 @@ use Rattle.report_cells.proofs.ending.Statement.{statement}
 use Rattle.report_cells.proofs.ending.Tie as tie
 
 returns : tie.Need-returns
-returns c = search (needs, ends-line)
+returns c = search ends-line
 
 returns-2 : tie.Need-returns-2
-returns-2 c = search (needs, ends-cell)
+returns-2 c = search ends-cell
 
 pub ending-spec : {M : Type 1} → statement M
 ending-spec = tie.close (tie.spec (λ c. search needs) returns returns-2)

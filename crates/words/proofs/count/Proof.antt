@@ -18,19 +18,19 @@ abbrev μ-loop : tie.MeasureT-loop
 μ-loop line n₀ start₀ n start = length line - start
 
 loop-holds : tie.Need-loop-holds Inv-loop μ-loop
-loop-holds c = (search needs, search (needs, starts-after), search (needs, count-begin))
+loop-holds c = (search needs, search (needs, starts-after), search count-begin)
 
 until-requires-3 : tie.Need-until-requires-3 Inv-loop μ-loop
-until-requires-3 c κs = search (needs, end-within)
+until-requires-3 c κs = search end-within
 
 loop-less : tie.Need-loop-less Inv-loop μ-loop
-loop-less c = search (needs, count-less)
+loop-less c = search count-less
 
 loop-again : tie.Need-loop-again Inv-loop μ-loop
-loop-again c = (search (needs, count-later), search (needs, starts-next), search (needs, count-more))
+loop-again c = (search count-later, search starts-next, search count-more)
 
 returns : tie.Need-returns Inv-loop μ-loop
-returns c = search (needs, count-end)
+returns c = search count-end
 
 pub count-spec : {M : Type 1} → statement M
 count-spec =

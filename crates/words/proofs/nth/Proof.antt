@@ -19,19 +19,19 @@ abbrev μ-loop : tie.MeasureT-loop
 μ-loop line k start₀ i₀ start i = k - i
 
 loop-holds : tie.Need-loop-holds Inv-loop μ-loop
-loop-holds c = (search needs, search (needs, starts-after), search (needs, nth-begin))
+loop-holds c = (search needs, search (needs, starts-after), search nth-begin)
 
 until-requires-3 : tie.Need-until-requires-3 Inv-loop μ-loop
-until-requires-3 c κs = search (needs, end-within)
+until-requires-3 c κs = search end-within
 
 loop-again : tie.Need-loop-again Inv-loop μ-loop
-loop-again c = (search needs, search (needs, starts-next), search (needs, nth-more))
+loop-again c = (search needs, search starts-next, search nth-more)
 
 part-result-end : tie.Need-part-result-end Inv-loop μ-loop
-part-result-end c = search (needs, end-within)
+part-result-end c = search end-within
 
 returns : tie.Need-returns Inv-loop μ-loop
-returns c = search (needs, nth-here)
+returns c = search nth-here
 
 pub nth-spec : {M : Type 1} → statement M
 nth-spec =

@@ -17,13 +17,13 @@ abbrev μ-loop : tie.MeasureT-loop
 μ-loop line from blank at₀ at = length line - at
 
 returns : tie.Need-returns Inv-loop μ-loop
-returns c = search (needs, passed-here)
+returns c = search passed-here
 
 loop-again : tie.Need-loop-again Inv-loop μ-loop
-loop-again c = (search needs, search (needs, passed-more))
+loop-again c = (search needs, search passed-more)
 
 returns-2 : tie.Need-returns-2 Inv-loop μ-loop
-returns-2 c = search (needs, passed-end)
+returns-2 c = search passed-end
 
 pub until-spec : {M : Type 1} → statement M
 until-spec =

@@ -6,13 +6,13 @@ use Rattle.words.proofs.without_return.Statement.{statement}
 use Rattle.words.proofs.without_return.Tie as tie
 
 returns : tie.Need-returns
-returns c = search (needs, return-none)
+returns c = search return-none
 
 returns-2 : tie.Need-returns-2
-returns-2 c = search (needs, return-last)
+returns-2 c = search return-last
 
 returns-3 : tie.Need-returns-3
-returns-3 c = search (needs, return-no)
+returns-3 c = search return-no
 
 pub without-return-spec : {M : Type 1} → statement M
 without-return-spec =

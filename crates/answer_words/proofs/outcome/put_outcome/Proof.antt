@@ -6,22 +6,22 @@ use Rattle.answer_words.proofs.outcome.put_outcome.Statement.{statement
 use Rattle.answer_words.proofs.outcome.put_outcome.Tie as tie
 
 returns : tie.Need-returns
-returns c = search (needs, put-translate)
+returns c = search put-translate
 
 returns-2 : tie.Need-returns-2
-returns-2 c = search (needs, put-bypass)
+returns-2 c = search put-bypass
 
 returns-3 : tie.Need-returns-3
-returns-3 c = search (needs, put-global)
+returns-3 c = search put-global
 
 returns-4 : tie.Need-returns-4
-returns-4 c = search (needs, put-abort)
+returns-4 c = search put-abort
 
 returns-5 : tie.Need-returns-5
-returns-5 c = search (needs, put-quiet)
+returns-5 c = search put-quiet
 
 returns-6 : tie.Need-returns-6
-returns-6 c = search (needs, put-unserved)
+returns-6 c = search put-unserved
 
 pub put-outcome-spec : {M : Type 1} → statement M
 put-outcome-spec =

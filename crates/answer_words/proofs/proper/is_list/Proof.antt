@@ -20,7 +20,7 @@ abbrev μ-loop : tie.MeasureT-loop
 μ-loop count pieces i₀ i = count - i
 
 returns : tie.Need-returns Inv-loop μ-loop
-returns c = search (needs, list-long)
+returns c = search list-long
 
 loop-holds : tie.Need-loop-holds Inv-loop μ-loop
 loop-holds c = (omega arith, rw sub-zero)
@@ -33,7 +33,7 @@ array-copy-out-piece c = omega arith
 
 -- a piece that ends past 2^52
 returns-2 : tie.Need-returns-2 Inv-loop μ-loop
-returns-2 c = search (needs, one-fails, list-is)
+returns-2 c = search (one-fails, list-is)
 
 add-i : tie.Need-add-i Inv-loop μ-loop
 add-i c = omega arith
@@ -42,11 +42,11 @@ loop-less : tie.Need-loop-less Inv-loop μ-loop
 loop-less c = omega arith
 
 loop-again : tie.Need-loop-again Inv-loop μ-loop
-loop-again c = (omega arith, search (needs, one-holds))
+loop-again c = (omega arith, search one-holds)
 
 -- none that does
 returns-3 : tie.Need-returns-3 Inv-loop μ-loop
-returns-3 c = search (needs, all-hold, list-is)
+returns-3 c = search (all-hold, list-is)
 
 pub is-list-spec : {M : Type 1} → statement M
 is-list-spec =

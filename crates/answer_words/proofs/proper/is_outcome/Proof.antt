@@ -6,22 +6,22 @@ use Rattle.answer_words.proofs.proper.is_outcome.Statement.{statement}
 use Rattle.answer_words.proofs.proper.is_outcome.Tie as tie
 
 returns : tie.Need-returns
-returns c = search (needs, translate-tested)
+returns c = search translate-tested
 
 returns-2 : tie.Need-returns-2
-returns-2 c = search (needs, bypass-tested)
+returns-2 c = search bypass-tested
 
 returns-3 : tie.Need-returns-3
-returns-3 c = search (needs, global-tested)
+returns-3 c = search global-tested
 
 returns-4 : tie.Need-returns-4
-returns-4 c = search (needs, abort-tested)
+returns-4 c = search abort-tested
 
 returns-5 : tie.Need-returns-5
-returns-5 c = search (needs, quiet-tested)
+returns-5 c = search quiet-tested
 
 returns-6 : tie.Need-returns-6
-returns-6 c = search (needs, unserved-tested)
+returns-6 c = search unserved-tested
 
 pub is-outcome-spec : {M : Type 1} → statement M
 is-outcome-spec =

@@ -7,31 +7,31 @@ use Rattle.book.proofs.into.ask_into.Statement.{statement}
 use Rattle.book.proofs.into.ask_into.Tie as tie
 
 returns : tie.Need-returns
-returns c = search (needs, ask-malformed)
+returns c = search ask-malformed
 
 returns-2 : tie.Need-returns-2
-returns-2 c = search (needs, ask-other)
+returns-2 c = search ask-other
 
 returns-3 : tie.Need-returns-3
-returns-3 c = search (needs, ask-third)
+returns-3 c = search ask-third
 
 add-key : tie.Need-add-key
-add-key c = search (needs, key-fits)
+add-key c = search key-fits
 
 first-from-requires : tie.Need-first-from-requires
-first-from-requires c κs = search (needs, few-slots)
+first-from-requires c κs = search few-slots
 
 block-requires : tie.Need-block-requires
-block-requires c κs = search (needs, slot-below)
+block-requires c κs = search slot-below
 
 returns-4 : tie.Need-returns-4
-returns-4 c = search (needs, ask-held)
+returns-4 c = search ask-held
 
 look-anew-requires : tie.Need-look-anew-requires
-look-anew-requires c κs = search (needs, few-slots)
+look-anew-requires c κs = search few-slots
 
 returns-5 : tie.Need-returns-5
-returns-5 c = search (needs, ask-new)
+returns-5 c = search ask-new
 
 pub ask-into-spec : {M : Type 1} → statement M
 ask-into-spec =

@@ -6,10 +6,10 @@ use Rattle.book.proofs.into.look_anew.Statement.{statement}
 use Rattle.book.proofs.into.look_anew.Tie as tie
 
 returns : tie.Need-returns
-returns c = search (needs, anew-refused)
+returns c = search anew-refused
 
 returns-2 : tie.Need-returns-2
-returns-2 c = search (needs, anew-kept)
+returns-2 c = search anew-kept
 
 pub look-anew-spec : {M : Type 1} → statement M
 look-anew-spec =

@@ -21,13 +21,13 @@ loop-holds : tie.Need-loop-holds Inv-loop μ-loop
 loop-holds c = (omega arith, omega arith, rw sub-zero)
 
 returns : tie.Need-returns Inv-loop μ-loop
-returns c = search (needs, any-found)
+returns c = search any-found
 
 loop-again : tie.Need-loop-again Inv-loop μ-loop
-loop-again c = (omega arith, omega arith, search (needs, any-more))
+loop-again c = (omega arith, omega arith, search any-more)
 
 returns-2 : tie.Need-returns-2 Inv-loop μ-loop
-returns-2 c = search (needs, any-none)
+returns-2 c = search any-none
 
 pub any-shares-spec : {M : Type 1} → statement M
 any-shares-spec =

@@ -6,10 +6,10 @@ use Rattle.book.proofs.strike.share.Statement.{statement}
 use Rattle.book.proofs.strike.share.Tie as tie
 
 returns : tie.Need-returns
-returns c = search (needs, share-below)
+returns c = search share-below
 
 returns-2 : tie.Need-returns-2
-returns-2 c = search (needs, share-above)
+returns-2 c = search share-above
 
 pub share-spec : {M : Type 1} → statement M
 share-spec =

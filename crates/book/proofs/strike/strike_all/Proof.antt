@@ -20,10 +20,10 @@ loop-holds : tie.Need-loop-holds Inv-loop μ-loop
 loop-holds c = (omega arith, refl)
 
 loop-again : tie.Need-loop-again Inv-loop μ-loop
-loop-again c = (omega arith, search (needs, more-struck))
+loop-again c = (omega arith, search more-struck)
 
 returns : tie.Need-returns Inv-loop μ-loop
-returns c = search (needs, all-struck)
+returns c = search all-struck
 
 pub strike-all-spec : {M : Type 1} → statement M
 strike-all-spec =

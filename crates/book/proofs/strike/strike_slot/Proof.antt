@@ -6,10 +6,10 @@ use Rattle.book.proofs.strike.strike_slot.Statement.{statement}
 use Rattle.book.proofs.strike.strike_slot.Tie as tie
 
 returns : tie.Need-returns
-returns c = search (needs, strike-hit)
+returns c = search strike-hit
 
 returns-2 : tie.Need-returns-2
-returns-2 c = search (needs, strike-miss)
+returns-2 c = search strike-miss
 
 pub strike-slot-spec : {M : Type 1} → statement M
 strike-slot-spec =

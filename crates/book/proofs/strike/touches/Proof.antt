@@ -6,10 +6,10 @@ use Rattle.book.proofs.strike.touches.Statement.{statement}
 use Rattle.book.proofs.strike.touches.Tie as tie
 
 returns : tie.Need-returns
-returns c = search (needs, touch-empty)
+returns c = search touch-empty
 
 returns-2 : tie.Need-returns-2
-returns-2 c = search (needs, touch-held)
+returns-2 c = search touch-held
 
 pub touches-spec : {M : Type 1} → statement M
 touches-spec =

@@ -11,6 +11,6 @@ first-with-spec =
     (tie.spec
     (λ c κs. search needs)
     (λ c. search needs)
-    (λ c. search (needs, first-unmarked))
+    (λ c. search first-unmarked)
     (λ c κs. search needs)
     (λ c. search needs))

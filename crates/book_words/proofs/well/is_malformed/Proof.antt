@@ -6,22 +6,22 @@ use Rattle.book_words.proofs.well.is_malformed.Statement.{statement}
 use Rattle.book_words.proofs.well.is_malformed.Tie as tie
 
 returns : tie.Need-returns
-returns c = search (needs, bad-none)
+returns c = search bad-none
 
 returns-2 : tie.Need-returns-2
-returns-2 c = search (needs, bad-many)
+returns-2 c = search bad-many
 
 returns-3 : tie.Need-returns-3
-returns-3 c = search (needs, bad-word)
+returns-3 c = search bad-word
 
 returns-4 : tie.Need-returns-4
-returns-4 c = search (needs, bad-registers)
+returns-4 c = search bad-registers
 
 returns-5 : tie.Need-returns-5
-returns-5 c = search (needs, bad-extent)
+returns-5 c = search bad-extent
 
 returns-6 : tie.Need-returns-6
-returns-6 c = search (needs, bad-slots)
+returns-6 c = search bad-slots
 
 pub is-malformed-spec : {M : Type 1} → statement M
 is-malformed-spec =

@@ -19,13 +19,13 @@ abbrev μ-loop : tie.MeasureT-loop
 μ-loop book j₀ j = registerWords - j
 
 returns : tie.Need-returns Inv-loop μ-loop
-returns c = search (needs, one-fails)
+returns c = search one-fails
 
 loop-again : tie.Need-loop-again Inv-loop μ-loop
-loop-again c = (omega arith, search (needs, one-holds))
+loop-again c = (omega arith, search one-holds)
 
 returns-2 : tie.Need-returns-2 Inv-loop μ-loop
-returns-2 c = search (needs, all-hold)
+returns-2 c = search all-hold
 
 pub registers-fit-spec : {M : Type 1} → statement M
 registers-fit-spec =

@@ -6,19 +6,19 @@ use Rattle.book_words.proofs.well.slot_well.Statement.{statement}
 use Rattle.book_words.proofs.well.slot_well.Tie as tie
 
 returns : tie.Need-returns
-returns c = search (needs, slot-empty)
+returns c = search slot-empty
 
 returns-2 : tie.Need-returns-2
-returns-2 c = search (needs, slot-past)
+returns-2 c = search slot-past
 
 returns-3 : tie.Need-returns-3
-returns-3 c = search (needs, slot-none)
+returns-3 c = search slot-none
 
 returns-4 : tie.Need-returns-4
-returns-4 c = search (needs, slot-twice)
+returns-4 c = search slot-twice
 
 returns-5 : tie.Need-returns-5
-returns-5 c = search (needs, slot-answer)
+returns-5 c = search slot-answer
 
 pub slot-well-spec : {M : Type 1} → statement M
 slot-well-spec =

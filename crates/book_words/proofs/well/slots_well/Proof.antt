@@ -23,13 +23,13 @@ loop-holds : tie.Need-loop-holds Inv-loop μ-loop
 loop-holds c = (omega arith, (refl, marked-none _))
 
 returns : tie.Need-returns Inv-loop μ-loop
-returns c = search (needs, one-fails)
+returns c = search one-fails
 
 loop-again : tie.Need-loop-again Inv-loop μ-loop
-loop-again c = (omega arith, (search (needs, one-holds), search (needs, marked-more)))
+loop-again c = (omega arith, (search one-holds, search marked-more))
 
 returns-2 : tie.Need-returns-2 Inv-loop μ-loop
-returns-2 c = search (needs, all-hold)
+returns-2 c = search all-hold
 
 pub slots-well-spec : {M : Type 1} → statement M
 slots-well-spec =

@@ -6,7 +6,7 @@ use Rattle.llobatelh.proofs.book_calls.llobatelh_notice.Statement.{stat
 use Rattle.llobatelh.proofs.book_calls.llobatelh_notice.Tie as tie
 
 returns : tie.Need-returns
-returns c = search (needs, noticed-is)
+returns c = search noticed-is
 
 pub llobatelh-notice-spec : {M : Type 1} → statement M
 llobatelh-notice-spec = tie.close (tie.spec (λ c κs. search needs) (λ c κs. search needs) returns)

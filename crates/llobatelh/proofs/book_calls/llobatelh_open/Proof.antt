@@ -6,7 +6,7 @@ use Rattle.llobatelh.proofs.book_calls.llobatelh_open.Statement.{statem
 use Rattle.llobatelh.proofs.book_calls.llobatelh_open.Tie as tie
 
 returns : tie.Need-returns
-returns c = search (needs, opened-is)
+returns c = search opened-is
 
 pub llobatelh-open-spec : {M : Type 1} → statement M
 llobatelh-open-spec =

@@ -6,10 +6,10 @@ use Rattle.llobatelh.proofs.book_calls.llobatelh_report.Statement.{stat
 use Rattle.llobatelh.proofs.book_calls.llobatelh_report.Tie as tie
 
 returns : tie.Need-returns
-returns c = search (needs, report-refused)
+returns c = search report-refused
 
 returns-2 : tie.Need-returns-2
-returns-2 c = search (needs, report-written)
+returns-2 c = search report-written
 
 pub llobatelh-report-spec : {M : Type 1} → statement M
 llobatelh-report-spec =

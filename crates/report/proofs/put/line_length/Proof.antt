@@ -18,13 +18,13 @@ abbrev μ-loop : tie.MeasureT-loop
 μ-loop line n sum₀ column₀ sum column = n - column
 
 loop-holds : tie.Need-loop-holds Inv-loop μ-loop
-loop-holds c = (omega arith, search (needs, columns-few), search (needs, line-counted), omega arith)
+loop-holds c = (omega arith, search columns-few, search line-counted, omega arith)
 
 loop-again : tie.Need-loop-again Inv-loop μ-loop
-loop-again c = (omega arith, omega arith, search (needs, cells-summed), search (needs, few-more))
+loop-again c = (omega arith, omega arith, search cells-summed, search few-more)
 
 returns : tie.Need-returns Inv-loop μ-loop
-returns c = (search (needs, cells-done), omega arith)
+returns c = (search cells-done, omega arith)
 
 pub line-length-spec : {M : Type 1} → statement M
 line-length-spec =

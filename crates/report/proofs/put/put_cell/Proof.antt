@@ -20,10 +20,10 @@ abbrev μ-loop : tie.MeasureT-loop
 μ-loop out₀ at ending cell j₀ out j = cell .count - j
 
 loop-holds : tie.Need-loop-holds Inv-loop μ-loop
-loop-holds c = (omega arith, omega arith, search (needs, cell-starts))
+loop-holds c = (omega arith, omega arith, search cell-starts)
 
 loop-again : tie.Need-loop-again Inv-loop μ-loop
-loop-again c = (omega arith, omega arith, search (needs, byte-put))
+loop-again c = (omega arith, omega arith, search byte-put)
 
 pub put-cell-spec : {M : Type 1} → statement M
 put-cell-spec =
@@ -42,5 +42,5 @@ put-cell-spec =
     (λ c. search needs)
     (λ c. omega arith)
     (λ c. omega arith)
-    (λ c. search (needs, cell-long))
-    (λ c. search (needs, cell-put)))
+    (λ c. search cell-long)
+    (λ c. search cell-put))

@@ -16,16 +16,16 @@ abbrev μ-loop : tie.MeasureT-loop
 μ-loop out₀ at line n to₀ column₀ out to column = n - column
 
 loop-holds : tie.Need-loop-holds Inv-loop μ-loop
-loop-holds c = (omega arith, search (needs, line-starts))
+loop-holds c = (omega arith, search line-starts)
 
 put-cell-requires : tie.Need-put-cell-requires Inv-loop μ-loop
-put-cell-requires c κs = search (needs, cell-room)
+put-cell-requires c κs = search cell-room
 
 loop-again : tie.Need-loop-again Inv-loop μ-loop
-loop-again c = (omega arith, search (needs, cell-more))
+loop-again c = (omega arith, search cell-more)
 
 returns : tie.Need-returns Inv-loop μ-loop
-returns c = search (needs, line-put)
+returns c = search line-put
 
 pub put-line-spec : {M : Type 1} → statement M
 put-line-spec =

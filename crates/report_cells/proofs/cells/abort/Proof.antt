@@ -11,7 +11,7 @@ abort-spec =
     (tie.spec
     (λ c. search needs)
     (λ c κs. search needs)
-    (λ c. search (needs, recorded-spelled))
+    (λ c. search recorded-spelled)
     (λ c. search needs)
     (λ c κs. search needs)
-    (λ c. search (needs, unrecorded-spelled)))
+    (λ c. search unrecorded-spelled))

@@ -11,4 +11,4 @@ stream-spec =
     (tie.spec
     (λ c. search needs)
     (λ c κs. search needs)
-    (λ c. search (needs, stream-spelled)))
+    (λ c. search stream-spelled))

@@ -14,5 +14,5 @@ substream-spec =
     (λ c κs. search needs)
     (λ c. search needs)
     (λ c κs. search needs)
-    (λ c. search (needs, without-spelled))
-    (λ c. search (needs, with-spelled)))
+    (λ c. search without-spelled)
+    (λ c. search with-spelled))

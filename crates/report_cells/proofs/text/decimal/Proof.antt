@@ -11,7 +11,7 @@ decimal-spec =
     (tie.spec
     (λ c. search needs)
     (λ c κs. search needs)
-    (λ c. search (needs, one-digit))
+    (λ c. search one-digit)
     (λ c. search needs)
     (λ c κs. search needs)
-    (λ c. search (needs, two-digits)))
+    (λ c. search two-digits))

@@ -12,10 +12,10 @@ abbrev μ-loop : tie.MeasureT-loop
 μ-loop n base letters w byte₀ rest₀ j₀ byte rest j = j
 
 loop-again : tie.Need-loop-again Inv-loop μ-loop
-loop-again c = search (needs, digits-more)
+loop-again c = search digits-more
 
 returns : tie.Need-returns Inv-loop μ-loop
-returns c = search (needs, digits-whole)
+returns c = search digits-whole
 
 pub digits-spec : {M : Type 1} → statement M
 digits-spec =

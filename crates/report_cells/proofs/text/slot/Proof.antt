@@ -10,7 +10,7 @@ slot-spec =
     tie.close
     (tie.spec
     (λ c κs. search needs)
-    (λ c. search (needs, small-slot))
+    (λ c. search small-slot)
     (λ c. search needs)
     (λ c κs. search needs)
-    (λ c. search (needs, three-digits)))
+    (λ c. search three-digits))

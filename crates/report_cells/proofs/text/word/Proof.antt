@@ -15,10 +15,10 @@ abbrev μ-loop : tie.MeasureT-loop
 μ-loop text byte₀ j₀ byte j = length text - j
 
 loop-again : tie.Need-loop-again Inv-loop μ-loop
-loop-again c = (omega arith, search (needs, word-more))
+loop-again c = (omega arith, search word-more)
 
 returns : tie.Need-returns Inv-loop μ-loop
-returns c = search (needs, word-whole)
+returns c = search word-whole
 
 pub word-spec : {M : Type 1} → statement M
 word-spec =

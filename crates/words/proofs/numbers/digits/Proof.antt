@@ -17,19 +17,19 @@ abbrev μ-loop : tie.MeasureT-loop
 μ-loop word base value₀ i₀ value i = length word - i
 
 returns : tie.Need-returns Inv-loop μ-loop
-returns c = search (needs, digits-none)
+returns c = search digits-none
 
 loop-holds : tie.Need-loop-holds Inv-loop μ-loop
 loop-holds c = (search needs, digits-begin _ _ (c .if1 .left))
 
 returns-2 : tie.Need-returns-2 Inv-loop μ-loop
-returns-2 c = search (needs, digits-not)
+returns-2 c = search digits-not
 
 loop-again : tie.Need-loop-again Inv-loop μ-loop
-loop-again c = (search needs, search (needs, digits-more))
+loop-again c = (search needs, search digits-more)
 
 returns-3 : tie.Need-returns-3 Inv-loop μ-loop
-returns-3 c = search (needs, digits-end)
+returns-3 c = search digits-end
 
 pub digits-spec : {M : Type 1} → statement M
 digits-spec =

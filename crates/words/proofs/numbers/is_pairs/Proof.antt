@@ -16,22 +16,22 @@ abbrev μ-loop : tie.MeasureT-loop
 μ-loop word i₀ i = length word - i
 
 returns : tie.Need-returns Inv-loop μ-loop
-returns c = search (needs, pairs-none)
+returns c = search pairs-none
 
 returns-2 : tie.Need-returns-2 Inv-loop μ-loop
-returns-2 c = search (needs, pairs-odd)
+returns-2 c = search pairs-odd
 
 loop-holds : tie.Need-loop-holds Inv-loop μ-loop
-loop-holds c = (search needs, search (needs, pairs-begin))
+loop-holds c = (search needs, search pairs-begin)
 
 returns-3 : tie.Need-returns-3 Inv-loop μ-loop
-returns-3 c = search (needs, pairs-not)
+returns-3 c = search pairs-not
 
 loop-again : tie.Need-loop-again Inv-loop μ-loop
-loop-again c = (search needs, search (needs, pairs-more))
+loop-again c = (search needs, search pairs-more)
 
 returns-4 : tie.Need-returns-4 Inv-loop μ-loop
-returns-4 c = search (needs, pairs-end)
+returns-4 c = search pairs-end
 
 pub is-pairs-spec : {M : Type 1} → statement M
 is-pairs-spec =

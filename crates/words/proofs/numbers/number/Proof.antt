@@ -7,13 +7,13 @@ use Rattle.words.proofs.numbers.number.Statement.{statement}
 use Rattle.words.proofs.numbers.number.Tie as tie
 
 returns : tie.Need-returns
-returns c = search (needs, number-short)
+returns c = search number-short
 
 returns-2 : tie.Need-returns-2
-returns-2 c = search (needs, number-no-zero)
+returns-2 c = search number-no-zero
 
 returns-3 : tie.Need-returns-3
-returns-3 c = search (needs, number-no-x)
+returns-3 c = search number-no-x
 
 returns-4 : tie.Need-returns-4
 returns-4 c = number-hex _ (omega arith) (omega arith) (c .digits4 .ensures)

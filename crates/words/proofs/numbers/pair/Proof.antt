@@ -6,10 +6,10 @@ use Rattle.words.proofs.numbers.pair.Statement.{statement}
 use Rattle.words.proofs.numbers.pair.Tie as tie
 
 returns : tie.Need-returns
-returns c = search (needs, pair-none)
+returns c = search pair-none
 
 returns-2 : tie.Need-returns-2
-returns-2 c = search (needs, pair-there)
+returns-2 c = search pair-there
 
 pub pair-spec : {M : Type 1} → statement M
 pair-spec =

@@ -19,10 +19,10 @@ returns-2 : tie.Need-returns-2
 returns-2 c = pushed-sum _ _ _ (omega arith) (c .if1 .left) (c .before .before .value .given .1)
 
 returns-3 : tie.Need-returns-3
-returns-3 c = search (needs, pushed-large)
+returns-3 c = search pushed-large
 
 returns-4 : tie.Need-returns-4
-returns-4 c = search (needs, pushed-not)
+returns-4 c = search pushed-not
 
 pub pushed-spec : {M : Type 1} → statement M
 pushed-spec =
