@@ -28,7 +28,7 @@ use Rattle.answer_words.specs.AnswerWords.{wordsOf, outcomeOf, listOf}
 use Rattle.answer_words.proofs.AnswerWordsLaws.{words-length}
 use Rattle.lookup.specs.Lookup.{lookedUp, answered, ruled}
 use Rattle.lookup.specs.declared.Answer.the-variants as looked
-use Rattle.lookup.proofs.Claims.{refused-exactly}
+use Rattle.lookup_claims.proofs.Claims.{refused-exactly}
 use Rattle.book_words.specs.Layout.{slotsMost, bookWords, keysFrom, slotsOf, registersOf, keyAt, blockFrom, blockAt, keyOf, copied, keptAt, otherExtent}
 use Rattle.book_words.specs.Malformed.{refusal7}
 use Rattle.book_words.proofs.KeptLaws.{copied-below, copied-above, kept-key, kept-block}

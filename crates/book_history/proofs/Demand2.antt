@@ -13,7 +13,7 @@ use Rattle.memory_image.specs.Extent.{extentOf, refusal2}
 use Rattle.lookup.specs.Lookup.{lookedUp, answered, ruled}
 use Rattle.lookup.specs.declared.Looked.{Looked}
 use Rattle.lookup.specs.declared.Answer.the-variants.{Is}
-use Rattle.lookup.proofs.Claims.{depends-on-list, listed-lies}
+use Rattle.lookup_claims.proofs.Claims.{depends-on-list, listed-lies}
 use Rattle.book_history.specs.Demand2.{AnswerOfTheRules, EachLies, lent, OutsideNeverCounts}
 
 pub answer-of-the-rules : AnswerOfTheRules

@@ -40,7 +40,7 @@ use Rattle.answer_words.proofs.Claims.{kept-is-read-back}
 use Rattle.lookup.specs.Lookup.{lookedUp, answered, ruled}
 use Rattle.lookup.specs.declared.Looked.{Looked}
 use Rattle.lookup.specs.declared.Answer.the-variants as looked
-use Rattle.lookup.proofs.Claims.{depends-on-list, listed-lies, answers-proper}
+use Rattle.lookup_claims.proofs.Claims.{depends-on-list, listed-lies, answers-proper}
 use Rattle.book_words.specs.Layout.{slotsMost, bookWords, baseAt, lengthAt, keysFrom, slotsOf, registersOf, extentHeld, keyAt, blockAt, keyOf, keptAt, openedWith}
 use Rattle.book_words.proofs.KeptLaws.{kept-length, kept-before, kept-key, kept-key-other, kept-block, kept-block-other}
 use Rattle.book_words.proofs.WordsLaws.{same-extent}

@@ -2,7 +2,7 @@
 --     AnswerOfTheRules       "For every request not refused the answer is the rules', with the list of descriptors read."
 --     EachLies               "Each lies in the memory given";
 --     OutsideNeverCounts     "bytes outside it never change the answer."
--- That bytes of the memory which aren't listed don't either is `DependsOnList` (lookup/specs/Claims.antt).
+-- That bytes of the memory which aren't listed don't either is `DependsOnList` (lookup_claims/specs/Claims.antt).
 -- Assumes: nothing.
 use Prim.Native.Nat.{ℕ, _+_, _≤_, _<_}
 use mathlib.Core.Path.{_≡_}

@@ -15,7 +15,7 @@ use Rattle.ids.specs.declared.Request.{Request}
 use Rattle.ids.specs.declared.Substream.the-variants.{Without, With}
 use Rattle.registers.specs.declared.Registers.{Registers}
 use Rattle.memory_image.specs.Extent.{Extent}
-use Rattle.lookup.specs.Claims.{smallRegisters, smallMemory, streamZero}
+use Rattle.lookup_claims.specs.Claims.{smallRegisters, smallMemory, streamZero}
 use Rattle.lookup.specs.Lookup.{lookedUp, LooksUp}
 use Rattle.lookup.specs.Part.{SteHanded, steAt}
 use Rattle.lookup.specs.declared.Looked.{Looked}

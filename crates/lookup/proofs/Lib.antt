@@ -2,5 +2,3 @@
 pub mod WalkLaws
 pub mod RuledLaws
 pub mod PartLaws
-pub mod Claims
-pub mod Uses

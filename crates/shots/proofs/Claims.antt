@@ -20,7 +20,7 @@ use Rattle.stream_entry.specs.StreamEntry.{steRule, notThere, stage1Rule, badSt
 use Rattle.context_table.specs.ContextTable.{contextRule, leafBits, twoLevelRule as cdTwoLevelRule, l1cdRule}
 use Rattle.context_entry.specs.ContextEntry.{cdRule, effectiveIps}
 use Rattle.lookup.specs.Lookup.{lookupRule, fromSte, fromEntry, fromCd, ruled, answered, lookedUp}
-use Rattle.lookup.proofs.Claims.{refused-exactly}
+use Rattle.lookup_claims.proofs.Claims.{refused-exactly}
 use Rattle.placed.specs.From.{valuesFrom, tab}
 use Rattle.placed.proofs.FromLaws.{values-length}
 use Rattle.shots.specs.Shots.{Shot, shots, byteOf, whole, clip, expected}

@@ -8,10 +8,10 @@ use mathlib.Core.Logic.{inl, inr}
 use lib.ListN.{getD}
 use Rattle.memory_image.specs.declared.Piece.{Piece}
 use Rattle.answers.specs.Pieces.{nothing}
-use Rattle.lookup.specs.Claims.{DescriptorLong}
+use Rattle.lookup_claims.specs.Claims.{DescriptorLong}
 use Rattle.lookup.specs.Lookup.{lookedUp}
-use Rattle.lookup.specs.Uses.{NothingInNoMemory, BelowTheOas, NothingReadAtEdge}
-use Rattle.lookup.proofs.Claims.{listed-lies, listed-few, nothing-read}
+use Rattle.lookup_claims.specs.Uses.{NothingInNoMemory, BelowTheOas, NothingReadAtEdge}
+use Rattle.lookup_claims.proofs.Claims.{listed-lies, listed-few, nothing-read}
 
 long : (p : Piece) → DescriptorLong p → 8 ≤ p .length
 long p (inl is) = omega arith

@@ -29,11 +29,11 @@ use Rattle.stream_table.specs.StreamTable.{streamRule, isLinear, linearAt}
 use Rattle.stream_table.specs.declared.Found.{Found}
 use Rattle.stream_entry.specs.StreamEntry.{steRule, notThere}
 use Rattle.stream_table.proofs.StreamLaws.{stream-unread}
-use Rattle.lookup.specs.Claims.{DependsOnList, ListedLies, DescriptorLong, ListedFew, RefusedExactly, OneAnswer, OnePart, NothingRead, AnswersProper, NoneIsNotZero}
+use Rattle.lookup_claims.specs.Claims.{DependsOnList, ListedLies, DescriptorLong, ListedFew, RefusedExactly, OneAnswer, OnePart, NothingRead, AnswersProper, NoneIsNotZero}
 use Rattle.lookup.specs.Lookup.{fromSte, fromEntry, lookupRule, ruled, refusedWith, answered, lookedUp}
 use Rattle.lookup.specs.declared.Looked.{Looked}
 use Rattle.lookup.specs.declared.Answer.the-variants.{Refused, Is}
 use Rattle.lookup.proofs.RuledLaws.{lookup-few, lookup-every, ProperOutcome, lookup-gives, ruled-few}
 
 -- the refusals
 pub refused-exactly : (r : Registers) (base : ℕ) (memory : List ℕ) (request : Request) → RefusedExactly r base memory request

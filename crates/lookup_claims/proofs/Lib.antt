@@ -1,0 +1,3 @@
+-- The claims of specs/.
+pub mod Claims
+pub mod Uses

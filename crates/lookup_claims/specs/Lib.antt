@@ -1,0 +1,3 @@
+-- What is claimed of the lookup, and what follows.
+pub mod Claims
+pub mod Uses
