@@ -16,9 +16,9 @@ proving() {
     [ ! -t 2 ] || on_terminal=yes
     mapfile -t crates < <(stands_on "$name")
     : >"$mark"
-    # in a session of its own: so it can be ended with all that it started
+    # in a session of its own: so it can be ended with all that it started. Two checks more than processors leave none of them idle
     # shellcheck disable=SC2154
-    (cd "$root" && exec setsid "$@") </dev/null >"$log" 2>&1 &
+    (cd "$root" && export RT_JOBS="${RT_JOBS:-$(($(nproc) + 2))}" && exec setsid "$@") </dev/null >"$log" 2>&1 &
     child=$!
     # shellcheck disable=SC2064
     for signal in INT TERM HUP; do trap "interrupted $signal" "$signal"; done
