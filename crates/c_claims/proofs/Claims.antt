@@ -43,6 +43,15 @@ as-in-rattle =
           (promise .result ∙ rw (is .result), promise .text ∙ sym (is .buffer), promise .size ∙ rw (is .result));
     }
 
+-- no refusal of theirs has the number 0
+not-zero2 : (a b n : ℕ) → (a ≡ 0 → ⊥) → (b ≡ 0 → ⊥) → 0 ≡ n → OneOf2 a b n → ⊥
+not-zero2 a b n not-a not-b is (inl one) = not-a (omega arith)
+not-zero2 a b n not-a not-b is (inr other) = not-b (omega arith)
+
+not-zero3 : (a b c n : ℕ) → (a ≡ 0 → ⊥) → (b ≡ 0 → ⊥) → (c ≡ 0 → ⊥) → 0 ≡ n → OneOf3 a b c n → ⊥
+not-zero3 a b c n not-a not-b not-c is (inl one) = not-a (omega arith)
+not-zero3 a b c n not-a not-b not-c is (inr others) = not-zero2 b c n not-b not-c is others
+
 -- a refusal's number, and what isn't one's
 module _ (r : Registers) (base : ℕ) (memory : List ℕ) (request : Request) (says : ℕ) where
   look-says : says ≡ answerSays (lookedUp r base memory request .answer) → (says ≡ 0) ⊎ OneOf3 1 2 3 says
@@ -67,9 +76,7 @@ module _ (r : Registers) (e : Extent) (slots : ℕ) (before after : List ℕ) wh
   open-zero promise = go (openSays r e slots) refl (promise .result)
     where
       none : (n : ℕ) → 0 ≡ n → OneOf3 1 2 4 n → ⊥
-      none n is (inl a) = omega arith
-      none n is (inr (inl b)) = omega arith
-      none n is (inr (inr c)) = omega arith
+      none n is one = not-zero3 1 2 4 n (λ e. omega arith) (λ e. omega arith) (λ e. omega arith) is one
 
       go : (told : Said) → openSays r e slots ≡ told → 0 ≡ saidSays told → told ≡ said.Done
       go (said.Refused n) told is = absurd (none n is (answer-or-number n .opened r e slots before after (record { result = sym told; book = promise .book })))
@@ -89,8 +96,7 @@ module _ (ws : List ℕ) (begin size : ℕ) (after : List ℕ) where
   notice-zero promise = go (noticeSays ws begin size) refl (promise .result)
     where
       none : (n : ℕ) → 0 ≡ n → OneOf2 7 5 n → ⊥
-      none n is (inl a) = omega arith
-      none n is (inr b) = omega arith
+      none n is one = not-zero2 7 5 n (λ e. omega arith) (λ e. omega arith) is one
 
       go : (told : Said) → noticeSays ws begin size ≡ told → 0 ≡ saidSays told → told ≡ said.Done
       go (said.Refused n) told is = absurd (none n is (answer-or-number n .noticed ws begin size after (record { result = sym told; book = promise .book })))
@@ -119,6 +125,7 @@ report-says ws before after says result buffer = go (reportSays ws (length befor
     go (written.Length n) told is = inl is
 
 pub numbers-in-c : NumbersInC
+unfolding writtenSays answerSays
 numbers-in-c =
     record {
       looked-up = λ r base memory request before says after promise. look-says r base memory request says (promise .result);
@@ -130,6 +137,12 @@ numbers-in-c =
           record { result = sym (open-zero r e slots before after promise); book = promise .book };
       zero-noticed = λ ws begin size after promise.
           record { result = sym (notice-zero ws begin size after promise); book = promise .book };
+      zero-reported = λ ws before length-before after length-after promise n refused.
+          not-zero2 7 8 n (λ e. omega arith) (λ e. omega arith) (promise .result ∙ rw (← refused .result))
+          (answer-or-number n .reported ws before after refused);
+      zero-looked-up = λ r base memory request before after promise n refused.
+          not-zero3 1 2 3 n (λ e. omega arith) (λ e. omega arith) (λ e. omega arith) (promise .result ∙ rw refused)
+          (answer-or-number n .looked-up r base memory request refused);
     }
 
 -- the STE

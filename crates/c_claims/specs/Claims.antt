@@ -16,6 +16,7 @@ use Rattle.memory_image.specs.Extent.{Extent}
 use Rattle.memory_image.specs.declared.Fetched.{Fetched}
 use Rattle.lookup.specs.Lookup.{lookedUp, answerSays, answerPut, LooksUp}
 use Rattle.lookup.specs.Part.{SteHanded, steAt}
+use Rattle.lookup.specs.declared.Answer.the-variants as answer
 use Rattle.lookup.specs.declared.Looked.{Looked}
 use Rattle.book.specs.Book.{Opened, Asks, Noticed}
 use Rattle.book.specs.Into.{askSays, askPut, AsksBook}
@@ -24,6 +25,7 @@ use Rattle.book.specs.declared.Said.{Said}
 use Rattle.book.specs.declared.Said.the-variants as said
 use Rattle.report.specs.Report.{Reported}
 use Rattle.report.specs.declared.Written.{Written}
+use Rattle.report.specs.declared.Written.the-variants as written
 use Rattle.book_history.specs.Demand1.{OneOf2, OneOf3}
 use Rattle.llobatelh.specs.Calls.{noPart, partSays, saidSays, writtenSays, lengthPut, OpensBook, NoticesBook, ReportsBook}
 
@@ -69,6 +71,12 @@ pub record NumbersInC : Type 0 where
       → Opened r e slots before said.Done after
   pub zero-noticed :
       (ws : List ℕ) (start size : ℕ) (after : List ℕ) → NoticesBook ws start size 0 after → Noticed ws start size said.Done after
+  pub zero-reported :
+      (ws before length-before after length-after : List ℕ) → ReportsBook ws before length-before 0 after length-after
+      → (n : ℕ) → Reported ws before (written.Refused n) after → ⊥
+  pub zero-looked-up :
+      (r : Registers) (base : ℕ) (memory : List ℕ) (request : Request) (before after : List ℕ)
+      → LooksUp (lookedUp r base memory request) before 0 after → (n : ℕ) → lookedUp r base memory request .answer ≡ answer.Refused n → ⊥
 
 abbrev pub PartLies : Type 0
 PartLies =
