@@ -2,4 +2,3 @@
 pub mod ProperTests
 pub mod AnswerWordsLaws
 pub mod ListLaws
-pub mod Claims

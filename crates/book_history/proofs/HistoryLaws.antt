@@ -36,11 +36,10 @@ use Rattle.answers.specs.declared.Outcome.{Outcome}
 use Rattle.answers.specs.declared.Pieces.{Pieces}
 use Rattle.answer_words.specs.AnswerWords.{wordsOf, outcomeOf, listOf}
 use Rattle.answer_words.proofs.AnswerWordsLaws.{words-length, stands-count}
-use Rattle.answer_words.proofs.Claims.{kept-is-read-back}
 use Rattle.lookup.specs.Lookup.{lookedUp, answered, ruled}
 use Rattle.lookup.specs.declared.Looked.{Looked}
 use Rattle.lookup.specs.declared.Answer.the-variants as looked
-use Rattle.lookup_claims.proofs.Claims.{depends-on-list, listed-lies, answers-proper}
+use Rattle.lookup_claims.proofs.Claims.{depends-on-list, listed-lies, answers-proper, kept-is-read-back}
 use Rattle.book_words.specs.Layout.{slotsMost, bookWords, baseAt, lengthAt, keysFrom, slotsOf, registersOf, extentHeld, keyAt, blockAt, keyOf, keptAt, openedWith}
 use Rattle.book_words.proofs.KeptLaws.{kept-length, kept-before, kept-key, kept-key-other, kept-block, kept-block-other}
 use Rattle.book_words.proofs.WordsLaws.{same-extent}

@@ -7,13 +7,12 @@ use lib.ListN.{length, take, drop, length-take, length-drop}
 use denote.Ref.{now}
 use Rattle.ids.specs.declared.Substream.the-variants.{Without, With}
 use Rattle.answer_words.specs.AnswerWords.{wordsOf, outcomeOf}
-use Rattle.answer_words.proofs.Claims.{kept-is-read-back}
 use Rattle.answers.specs.declared.Outcome.the-variants.{Abort, Bypass}
 use Rattle.answers.specs.declared.Pieces.{Pieces}
 use Rattle.lookup_claims.specs.Claims.{smallRegisters, smallMemory, streamZero}
 use Rattle.lookup.specs.Lookup.{lookedUp, answerSays, answerPut, LooksUp}
 use Rattle.lookup.specs.Part.{steAt}
-use Rattle.lookup_claims.proofs.Claims.{one-answer, one-part, none-is-not-zero}
+use Rattle.lookup_claims.proofs.Claims.{one-answer, one-part, none-is-not-zero, kept-is-read-back}
 use Rattle.book.specs.Book.{openSays, noticeSays, Opened, Asks, Noticed}
 use Rattle.book.specs.Into.{asked}
 use Rattle.report.specs.Report.{Reported, reportSays}

@@ -23,13 +23,15 @@ use Rattle.answers.specs.Layout.{piecesMost}
 use Rattle.answers.specs.Pieces.{none, piecesOf, EachPiece}
 use Rattle.answers.specs.Proper.{ProperAnswer}
 use Rattle.answers.specs.declared.Outcome.{Outcome}
+use Rattle.answers.specs.declared.Pieces.{Pieces}
 use Rattle.answers.proofs.PiecesLaws.{each-pieces, pieces-each, pieces-none, pieces-length}
 use Rattle.answers.proofs.ProperLaws.{Below, proper-pieces}
+use Rattle.answer_words.proofs.AnswerWordsLaws.{outcome-back, list-back, stands-proper}
 use Rattle.stream_table.specs.StreamTable.{streamRule, isLinear, linearAt}
 use Rattle.stream_table.specs.declared.Found.{Found}
 use Rattle.stream_entry.specs.StreamEntry.{steRule, notThere}
 use Rattle.stream_table.proofs.StreamLaws.{stream-unread}
-use Rattle.lookup_claims.specs.Claims.{DependsOnList, ListedLies, DescriptorLong, ListedFew, RefusedExactly, OneAnswer, OnePart, NothingRead, AnswersProper, NoneIsNotZero}
+use Rattle.lookup_claims.specs.Claims.{DependsOnList, ListedLies, DescriptorLong, ListedFew, RefusedExactly, OneAnswer, OnePart, NothingRead, AnswersProper, NoneIsNotZero, KeptIsReadBack}
 use Rattle.lookup.specs.Lookup.{fromSte, fromEntry, lookupRule, ruled, refusedWith, answered, lookedUp}
 use Rattle.lookup.specs.declared.Looked.{Looked}
 use Rattle.lookup.specs.declared.Answer.the-variants.{Refused, Is}
@@ -158,3 +160,11 @@ answers-proper r base memory request outcome l is =
 pub none-is-not-zero : NoneIsNotZero
 unfolding lookedUp refusal1 refusal2 refusal3 ruled lookupRule fromSte fromEntry streamRule steRule notThere run andThen fetched word oasSize sizeOf isLinear linearAt
 none-is-not-zero = (refl, refl)
+
+pub kept-is-read-back : (outcome : Outcome) (l : Pieces) → KeptIsReadBack outcome l
+kept-is-read-back outcome l =
+    record {
+      same-outcome = outcome-back outcome l;
+      same-list = list-back outcome l;
+      standing = λ proper. stands-proper outcome l (proper .array-full) (proper .outcome-proper) (proper .list-proper);
+    }

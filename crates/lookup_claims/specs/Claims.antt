@@ -7,6 +7,7 @@
 --     NothingRead        nothing is read where SMMUEN is 0 or the StreamID is out of range
 --     AnswersProper      every answer is proper: its fields have their widths, its numbers are listed, its list is short and below 2^52
 --     NoneIsNotZero      a request without a SubstreamID and one with SubstreamID 0 get different answers, on concrete tables
+--     KeptIsReadBack     an outcome and a list are read back from the words that a book keeps, and the words of a lookup's answer stand
 -- Assumes: nothing.
 use Prim.Native.Nat.{ℕ, _^_, _≤_}
 use mathlib.Core.Path.{_≡_}
@@ -34,6 +35,7 @@ use Rattle.answers.specs.Proper.{ProperAnswer}
 use Rattle.answers.specs.declared.Outcome.{Outcome}
 use Rattle.answers.specs.declared.Outcome.the-variants.{Abort, Bypass}
 use Rattle.answers.specs.declared.Pieces.{Pieces}
+use Rattle.answer_words.specs.AnswerWords.{wordsOf, outcomeOf, listOf, stands}
 use Rattle.stream_table.specs.StreamTable.{log2}
 use Rattle.lookup.specs.Lookup.{lookedUp, refusedWith, answered, ruled}
 use Rattle.lookup.specs.Part.{SteHanded}
@@ -106,3 +108,8 @@ abbrev pub NoneIsNotZero : Type 0
 NoneIsNotZero =
     (lookedUp smallRegisters 0 smallMemory (streamZero Without) .answer ≡ Is (Bypass 0))
     × (lookedUp smallRegisters 0 smallMemory (streamZero (With (record { number = 0 }))) .answer ≡ Is (Abort 8))
+
+pub record KeptIsReadBack (outcome : Outcome) (l : Pieces) : Type 0 where
+  pub same-outcome : outcomeOf (wordsOf outcome l) ≡ outcome
+  pub same-list : length (l .piece) ≡ piecesMost → listOf (wordsOf outcome l) ≡ l
+  pub standing : ProperAnswer outcome l → stands (wordsOf outcome l) ≡ true
