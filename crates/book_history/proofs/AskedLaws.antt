@@ -1,7 +1,7 @@
 -- What an accepted ask has passed, and the two sentences of demand 3 that speak of one.
 --     looked-is               its lookup refuses nothing
 --     Passed, passed          the refusals that it passed, what it told and what it left
---     accepts                 and back: where it passes them it is accepted
+--     refused-why, accepts    why one is refused; and back: where it passes the refusals it is accepted
 --     slot-is, unkept         a request that is kept has one slot; one that isn't has none
 --     new-in-lowest, kept-from-its-slot
 -- Assumes: nothing.
@@ -10,6 +10,7 @@ use native.Mathlib.Omega.{arith}
 use mathlib.Core.Path.{_≡_, refl, sym, ap, _∙_}
 use mathlib.Core.Bool.{Bool, true, false}
 use mathlib.Core.List.{List}
+use mathlib.Core.Logic.{_⊎_, inl, inr}
 use borrow.Author.Tests.{lt-ltb, ltb-true, ltb-false}
 use lib.Dec.{ltb}
 use lib.ListN.{length, getD, set}
@@ -81,25 +82,39 @@ module _ (ws : List ℕ) (base : ℕ) (memory : List ℕ) (request : Request) (a
       refused : {n : ℕ} → asked ≡ refusedWith n → Passed
       refused {n = n} is = absurd (accepted n (ap (λ (a : Asked). a .reply) is))
 
--- an ask that passes the refusals is accepted
-pub accepts :
-    (ws : List ℕ) (base : ℕ) (memory : List ℕ) (request : Request) (asked : Asked) (after : List ℕ) → refusal7 ws ≡ false
-    → otherExtent ws base (length memory) ≡ false → refusal3 request ≡ false → Asks ws base memory request asked after → Accepted (asked .reply)
+-- an ask that is refused: with which number, and why
+pub refused-why :
+    (ws : List ℕ) (base : ℕ) (memory : List ℕ) (request : Request) (asked : Asked) (after : List ℕ) (n : ℕ)
+    → Asks ws base memory request asked after → asked .reply ≡ Refused n
+    → ((n ≡ 7) × (refusal7 ws ≡ true)) ⊎ (((n ≡ 6) × (otherExtent ws base (length memory) ≡ true)) ⊎ ((n ≡ 3) × (refusal3 request ≡ true)))
 unfolding askResult
-accepts ws base memory request asked after well same third promise n is =
-    by-test Not (refusal7 ws) (λ bad. not-both (sym bad ∙ well))
-    (λ one. by-test Not (otherExtent ws base (length memory)) (λ other. not-both (sym other ∙ same))
-    (λ two. by-test Not (refusal3 request) (λ wide. not-both (sym wide ∙ third))
-    (λ three. either Not (ltb (slotOf ws request) (slotsOf ws)) (λ so. let z : _≡_ {A = ℕ} 0 1 = cc in omega arith)
+refused-why ws base memory request asked after n promise is =
+    by-test Why (refusal7 ws) (λ bad so. inl (cc, bad))
+    (λ well. by-test Why (otherExtent ws base (length memory)) (λ other so. inr (inl (cc, other)))
+    (λ same. by-test Why (refusal3 request) (λ wide so. inr (inr (cc, wide)))
+    (λ third. either Why (ltb (slotOf ws request) (slotsOf ws)) (λ so. let z : _≡_ {A = ℕ} 0 1 = cc in absurd (omega arith))
     (rw (looked-is ws base memory request well same third) (anew (ltb (emptySlot ws) (slotsOf ws)) _ _)))))
     (sym (ap (λ (a : Asked). a .reply) (promise .result)) ∙ is)
   where
-    Not : Asked → Type 0
-    Not told = told .reply ≡ Refused n → ⊥
+    Why : Asked → Type 0
+    Why told =
+        told .reply ≡ Refused n
+        → ((n ≡ 7) × (refusal7 ws ≡ true)) ⊎ (((n ≡ 6) × (otherExtent ws base (length memory) ≡ true)) ⊎ ((n ≡ 3) × (refusal3 request ≡ true)))
 
-    anew : (room : Bool) (outcome : Outcome) (list : Pieces) → Not (newly room (looked.Is outcome) list)
-    anew true outcome list so = let z : _≡_ {A = ℕ} 0 1 = cc in omega arith
-    anew false outcome list so = let z : _≡_ {A = ℕ} 0 1 = cc in omega arith
+    anew : (room : Bool) (outcome : Outcome) (list : Pieces) → Why (newly room (looked.Is outcome) list)
+    anew true outcome list so = let z : _≡_ {A = ℕ} 0 1 = cc in absurd (omega arith)
+    anew false outcome list so = let z : _≡_ {A = ℕ} 0 1 = cc in absurd (omega arith)
+
+-- where it passes the refusals it is accepted
+pub accepts :
+    (ws : List ℕ) (base : ℕ) (memory : List ℕ) (request : Request) (asked : Asked) (after : List ℕ) → refusal7 ws ≡ false
+    → otherExtent ws base (length memory) ≡ false → refusal3 request ≡ false → Asks ws base memory request asked after → Accepted (asked .reply)
+accepts ws base memory request asked after well same third promise n is = go (refused-why ws base memory request asked after n promise is)
+  where
+    go : ((n ≡ 7) × (refusal7 ws ≡ true)) ⊎ (((n ≡ 6) × (otherExtent ws base (length memory) ≡ true)) ⊎ ((n ≡ 3) × (refusal3 request ≡ true))) → ⊥
+    go (inl why) = not-both (sym (why .1) ∙ well)
+    go (inr (inl why)) = not-both (sym (why .1) ∙ same)
+    go (inr (inr why)) = not-both (sym (why .1) ∙ third)
 
 -- where a request is kept
 module _ (ws : List ℕ) (request : Request) where

@@ -5,24 +5,22 @@ use native.Mathlib.Omega.{arith}
 use mathlib.Core.Path.{_≡_, refl, sym, ap, _∙_}
 use mathlib.Core.Bool.{Bool, true, false, _||_}
 use mathlib.Core.List.{List}
-use mathlib.Core.Logic.{inl, inr}
+use mathlib.Core.Logic.{_⊎_, inl, inr}
 use lib.Dec.{eqb, ltb}
 use lib.ListN.{length}
-use Rattle.bit_fields.proofs.ChoiceLaws.{alike, either, by-test}
+use Rattle.bit_fields.proofs.ChoiceLaws.{alike, either}
 use Rattle.ids.specs.Ids.{refusal3}
 use Rattle.ids.specs.declared.Request.{Request}
 use Rattle.registers.specs.Sizes.{refusal1}
 use Rattle.registers.specs.declared.Registers.{Registers}
 use Rattle.memory_image.specs.Extent.{Extent, extentOf, refusal2, addressTop}
-use Rattle.answers.specs.declared.Outcome.{Outcome}
-use Rattle.answers.specs.declared.Pieces.{Pieces}
 use Rattle.lookup.specs.Lookup.{lookedUp, answerPut}
 use Rattle.lookup.specs.declared.Answer.{Answer}
 use Rattle.lookup.specs.declared.Answer.the-variants as looked
 use Rattle.lookup.specs.declared.Looked.{Looked}
 use Rattle.book_words.specs.Layout.{slotsMost, slotsOf, keyOf, otherExtent}
 use Rattle.book_words.specs.Malformed.{refusal7}
-use Rattle.book.specs.Book.{openSays, slotOf, emptySlot, newly, nowHolding, askResult, askBook, newLookup, noticeSays}
+use Rattle.book.specs.Book.{Asks, openSays, slotOf, emptySlot, newly, nowHolding, askResult, askBook, newLookup, noticeSays}
 use Rattle.book.specs.Into.{askPut}
 use Rattle.book.specs.declared.Asked.{Asked}
 use Rattle.book.specs.declared.Said.{Said}
@@ -31,7 +29,7 @@ use Rattle.book.specs.declared.Reply.the-variants as reply
 use Rattle.report.specs.Report.{reportSays, reportText}
 use Rattle.report.specs.declared.Written.{Written}
 use Rattle.report.specs.declared.Written.the-variants as written
-use Rattle.book_history.proofs.AskedLaws.{looked-is}
+use Rattle.book_history.proofs.AskedLaws.{refused-why}
 use Rattle.book_history.specs.Demand1.{OneOf2, OneOf3, AnswerOrNumber, HoldsWhatItHeld}
 
 module _ (n : ℕ) where
@@ -76,22 +74,14 @@ module _ (n : ℕ) where
       Number says = written.Refused n ≡ says → OneOf2 7 8 n
 
   ask-number :
-      (ws : List ℕ) (base : ℕ) (memory : List ℕ) (request : Request)
-      → askResult ws base (length memory) request (newLookup ws base memory request) .reply ≡ reply.Refused n → OneOf3 7 6 3 n
-  unfolding askResult
-  ask-number ws base memory request =
-      by-test Number (refusal7 ws) (λ bad is. inl cc)
-      (λ well. by-test Number (otherExtent ws base (length memory)) (λ other is. inr (inl cc))
-      (λ same. by-test Number (refusal3 request) (λ wide is. inr (inr cc))
-      (λ third. either Number (ltb (slotOf ws request) (slotsOf ws)) (λ is. let z : _≡_ {A = ℕ} 0 1 = cc in absurd (omega arith))
-      (rw (looked-is ws base memory request well same third) (anew (ltb (emptySlot ws) (slotsOf ws)) _ _)))))
+      (ws : List ℕ) (base : ℕ) (memory : List ℕ) (request : Request) (told : Asked) (after : List ℕ)
+      → Asks ws base memory request told after → told .reply ≡ reply.Refused n → OneOf3 7 6 3 n
+  ask-number ws base memory request told after promise is = go (refused-why ws base memory request told after n promise is)
     where
-      Number : Asked → Type 0
-      Number told = told .reply ≡ reply.Refused n → OneOf3 7 6 3 n
-
-      anew : (room : Bool) (outcome : Outcome) (list : Pieces) → Number (newly room (looked.Is outcome) list)
-      anew true outcome list is = let z : _≡_ {A = ℕ} 0 1 = cc in absurd (omega arith)
-      anew false outcome list is = let z : _≡_ {A = ℕ} 0 1 = cc in absurd (omega arith)
+      go : ((n ≡ 7) × (refusal7 ws ≡ true)) ⊎ (((n ≡ 6) × (otherExtent ws base (length memory) ≡ true)) ⊎ ((n ≡ 3) × (refusal3 request ≡ true))) → OneOf3 7 6 3 n
+      go (inl why) = inl (why .0)
+      go (inr (inl why)) = inr (inl (why .0))
+      go (inr (inr why)) = inr (inr (why .0))
 
   ask-refused :
       (ws : List ℕ) (base size : ℕ) (request : Request) (new : Looked) → askResult ws base size request new .reply ≡ reply.Refused n
@@ -118,8 +108,7 @@ answer-or-number n =
     record {
       looked-up = look-number n;
       opened = λ r e slots before after promise. open-number n r e slots (promise .result);
-      asked-of = λ ws base memory request told after promise is.
-          ask-number n ws base memory request (sym (ap (λ (a : Asked). a .reply) (promise .result)) ∙ is);
+      asked-of = ask-number n;
       noticed = λ ws start size after promise. notice-number n ws start size (promise .result);
       reported = λ ws before after promise. report-number n ws (length before) (promise .result);
     }

@@ -98,6 +98,11 @@ nothing-held-at-first r e slots before opened opens start size after promise x =
     strikes-exactly opened start size after promise .rest x
     (λ i small is held read. held (starts-empty r e slots before opened opens i small))
 
+-- a number that isn't 0
+above-zero : (n : ℕ) → (n ≡ 0 → ⊥) → 0 < n
+above-zero zero not-so = absurd (not-so refl)
+above-zero (suc n) not-so = omega arith
+
 -- asks
 pub first-slot-first : FirstSlotFirst
 first-slot-first r e slots before opened opens base memory request asked after promise accepted =
@@ -105,7 +110,7 @@ first-slot-first r e slots before opened opens base memory request asked after p
     let long : length opened ≡ bookWords = rw is (opened-length r e slots) in
     let well = well-to opened (passed opened base memory request asked after promise accepted .well) in
     let few = well .few in
-    let some : 0 < slotsOf opened = some-slot (slotsOf opened) (well .some) in
+    let some : 0 < slotsOf opened = above-zero (slotsOf opened) (well .some) in
     let none : (i : ℕ) → KeptIn opened request i → ⊥
     = λ i kept.
     let below = kept .below in
@@ -116,10 +121,6 @@ first-slot-first r e slots before opened opens base memory request asked after p
     let new = new-in-lowest opened base memory request asked after long promise accepted none .room 0 (some, empty) in
     first new (some, empty)
   where
-    some-slot : (n : ℕ) → (n ≡ 0 → ⊥) → 0 < n
-    some-slot zero not-so = absurd (not-so refl)
-    some-slot (suc n) not-so = omega arith
-
     first : (new : NewIn opened request asked after) → Empty opened 0 → keyAt after 0 ≡ keyOf request
     first new empty = go (new .slot) refl (new .key) (new .lowest)
       where
@@ -132,12 +133,8 @@ first-slot-first r e slots before opened opens base memory request asked after p
 pub held-is-its-own : HeldIsItsOwn
 held-is-its-own ws i request below held stands base memory asked after promise accepted =
     let word : packed request ≡ keyAt ws i - 1 = one-word-each (keyAt ws i - 1) request stands .0 in
-    let some : 0 < keyAt ws i = some-key (keyAt ws i) held in
+    let some : 0 < keyAt ws i = above-zero (keyAt ws i) held in
     kept-from-its-slot ws base memory request asked after promise accepted i (record { below = below; key = omega arith }) .0
-  where
-    some-key : (n : ℕ) → (n ≡ 0 → ⊥) → 0 < n
-    some-key zero not-so = absurd (not-so refl)
-    some-key (suc n) not-so = omega arith
 
 pub one-slot-one-request : OneSlotOneRequest
 one-slot-one-request ws i q r proper-q proper-r kept also =

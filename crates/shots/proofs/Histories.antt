@@ -89,12 +89,12 @@ module _ {ws : List ℕ} (book : Booked ws) where
       let length-is : lengthOf ws ≡ 0x10000 = ap (λ (e : Extent). e .length) extent-is in
       rw (size, base, length-is)
 
-record Asked-by (told : Reply) (s : State) (base : ℕ) (memory after : List ℕ) : Type 0 where
+record AskedBy (told : Reply) (s : State) (base : ℕ) (memory after : List ℕ) : Type 0 where
   words : asking told s base memory after .words ≡ after
   registers : asking told s base memory after .registers ≡ s .registers
   extent : asking told s base memory after .extent ≡ s .extent
 
-asked-by : (told : Reply) (s : State) (base : ℕ) (memory after : List ℕ) → Asked-by told s base memory after
+asked-by : (told : Reply) (s : State) (base : ℕ) (memory after : List ℕ) → AskedBy told s base memory after
 asked-by (reply.Refused n) s base memory after = record { words = refl; registers = refl; extent = refl }
 asked-by (reply.KeptBefore outcome) s base memory after = record { words = refl; registers = refl; extent = refl }
 asked-by (reply.NewlyKept outcome) s base memory after = record { words = refl; registers = refl; extent = refl }
