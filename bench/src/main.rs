@@ -1,12 +1,15 @@
 //! A first measure of speed: the archive's lookup and ask against ordinary Rust that makes the same checks. See docs/PERFORMANCE.md.
 //!
 //!     bench [ROUNDS]
+//!     bench beside BEFORE NOW [ROUNDS]     two builds of the archive as shared libraries: bench/beside
 
+mod beside;
 mod fold;
 mod inputs;
 mod ordinary;
 mod sides;
 
+use beside::Build;
 use llobatelh::SLOTS_MOST;
 use sides::{lookups, second_program, Books, Side};
 use std::time::{Duration, Instant};
@@ -14,16 +17,32 @@ use std::time::{Duration, Instant};
 /// A round measures a side for about so long.
 const ROUND: Duration = Duration::from_millis(20);
 
-fn main() {
-    let rounds = std::env::args().nth(1).and_then(|word| word.parse().ok());
-    let rounds = rounds.unwrap_or(31);
-    println!("{rounds} rounds of about {ROUND:?} a side; ns a call: the median of the rounds; ratio: the median, [least, most]");
-    println!(
-        "{:34} {:>8} {:>8} {:>8}  {:22} {:22}",
-        "", "archive", "rust/", "ordinary", "archive / ordinary", "rust/ / ordinary"
-    );
+/// So many rounds where none are asked for.
+const ROUNDS: usize = 31;
 
-    for (name, inputs) in [
+fn main() -> Result<(), String> {
+    let words: Vec<String> = std::env::args().skip(1).collect();
+    let words: Vec<&str> = words.iter().map(String::as_str).collect();
+    match words[..] {
+        [] => against_ordinary(ROUNDS),
+        ["beside", before, now] => return two_builds(before, now, ROUNDS),
+        ["beside", before, now, rounds] => return two_builds(before, now, number(rounds)?),
+        [rounds] => against_ordinary(number(rounds)?),
+        _ => return Err("bench [ROUNDS], or bench beside BEFORE NOW [ROUNDS]".into()),
+    }
+    Ok(())
+}
+
+fn number(word: &str) -> Result<usize, String> {
+    match word.parse() {
+        Ok(rounds) if rounds > 0 => Ok(rounds),
+        _ => Err(format!("{word}: not a number of rounds")),
+    }
+}
+
+/// The sets of lookups that are measured.
+fn sets() -> [(&'static str, Vec<inputs::Input>); 3] {
+    [
         (
             "lookup, translate (4 descriptors)",
             vec![inputs::translating(1024)],
@@ -33,10 +52,49 @@ fn main() {
             vec![inputs::bypassing(1024)],
         ),
         ("lookup, of every kind", inputs::mixed(96)),
-    ] {
-        let calls = inputs.iter().map(|input| input.requests.len()).sum();
+    ]
+}
+
+fn calls_of(inputs: &[inputs::Input]) -> usize {
+    inputs.iter().map(|input| input.requests.len()).sum()
+}
+
+/// What a lookup takes by two builds of the archive.
+fn two_builds(before: &str, now: &str, rounds: usize) -> Result<(), String> {
+    let builds = [Build::load(before)?, Build::load(now)?];
+    println!("{rounds} rounds of about {ROUND:?} a side; ns a call: the median of the rounds; ratio: the median, [least, most]");
+    println!(
+        "{:34} {:>8} {:>8}  {:22} answers",
+        "", "before", "now", "now / before"
+    );
+    for (name, inputs) in sets() {
+        let expected = [0, 1].map(|place: usize| builds[place].lookups(&inputs));
+        let same = builds[0].every_word(&inputs) == builds[1].every_word(&inputs);
+        let times = measured(name, rounds, calls_of(&inputs), expected, |place| {
+            builds[place].lookups(&inputs)
+        });
+        let [before, now] = [0, 1].map(|place| spread(times.iter().map(|t| t[place])).1);
+        println!(
+            "{name:34} {before:8.1} {now:8.1}  {:22} {}",
+            ratio(times.iter().map(|time| time[1] / time[0])),
+            if same { "the same" } else { "others" }
+        );
+    }
+    Ok(())
+}
+
+fn against_ordinary(rounds: usize) {
+    println!("{rounds} rounds of about {ROUND:?} a side; ns a call: the median of the rounds; ratio: the median, [least, most]");
+    println!(
+        "{:34} {:>8} {:>8} {:>8}  {:22} {:22}",
+        "", "archive", "rust/", "ordinary", "archive / ordinary", "rust/ / ordinary"
+    );
+
+    for (name, inputs) in sets() {
         let expected = second_program(&inputs);
-        measure(name, rounds, calls, expected, |side| lookups(side, &inputs));
+        measure(name, rounds, calls_of(&inputs), expected, |side| {
+            lookups(side, &inputs)
+        });
     }
 
     let hits = inputs::distinct(0, 64, 16);
@@ -71,7 +129,7 @@ fn kept(name: &str, rounds: usize, fill: &inputs::Input, asked: &inputs::Input) 
     });
 }
 
-/// Measures the three sides in turn, round after round, and prints a line. Every pass must give the expected sum.
+/// Measures the three sides, and prints a line.
 fn measure(
     name: &str,
     rounds: usize,
@@ -80,40 +138,56 @@ fn measure(
     mut pass: impl FnMut(Side) -> u64,
 ) {
     const SIDES: [Side; 3] = [Side::Archive, Side::Wrapper, Side::Ordinary];
-    let mut passes = [0u32; 3];
-    for (place, side) in SIDES.into_iter().enumerate() {
+    let times = measured(name, rounds, calls, [expected; 3], |place| {
+        pass(SIDES[place])
+    });
+    let [archive, wrapper, ordinary] =
+        [0, 1, 2].map(|place| spread(times.iter().map(|t| t[place])).1);
+    println!(
+        "{name:34} {archive:8.1} {wrapper:8.1} {ordinary:8.1}  {:22} {:22}",
+        ratio(times.iter().map(|time| time[0] / time[2])),
+        ratio(times.iter().map(|time| time[1] / time[2]))
+    );
+}
+
+/// What a call takes on each side, in nanoseconds, round after round: the sides take turns. Every pass must give the sum that is expected
+/// of its side.
+fn measured<const SIDES: usize>(
+    name: &str,
+    rounds: usize,
+    calls: usize,
+    expected: [u64; SIDES],
+    mut pass: impl FnMut(usize) -> u64,
+) -> Vec<[f64; SIDES]> {
+    let mut passes = [0u32; SIDES];
+    for (place, passes) in passes.iter_mut().enumerate() {
         let start = Instant::now();
         while start.elapsed() < ROUND {
-            assert_eq!(pass(side), expected, "{name}: {side:?} answers otherwise");
-            passes[place] += 1;
+            assert_eq!(pass(place), expected[place], "{name}: side {place}");
+            *passes += 1;
         }
     }
-    let mut times: Vec<[f64; 3]> = Vec::new();
+    let mut times = Vec::new();
     for round in 0..rounds {
-        let mut time = [0.0; 3];
-        for turn in 0..3 {
-            // Each side is first, second and last in turn.
-            let place = (turn + round) % 3;
+        let mut time = [0.0; SIDES];
+        for turn in 0..SIDES {
+            // Each side is first, and so on to last, in turn.
+            let place = (turn + round) % SIDES;
             let start = Instant::now();
             for _ in 0..passes[place] {
-                assert_eq!(pass(SIDES[place]), expected, "{name}");
+                assert_eq!(pass(place), expected[place], "{name}: side {place}");
             }
             let all = f64::from(passes[place]) * calls as f64;
             time[place] = start.elapsed().as_nanos() as f64 / all;
         }
         times.push(time);
     }
-    let [archive, wrapper, ordinary] =
-        [0, 1, 2].map(|place| spread(times.iter().map(|t| t[place])).1);
-    let ratio = |place: usize| {
-        let (least, median, most) = spread(times.iter().map(|time| time[place] / time[2]));
-        format!("{median:.2} [{least:.2}, {most:.2}]")
-    };
-    println!(
-        "{name:34} {archive:8.1} {wrapper:8.1} {ordinary:8.1}  {:22} {:22}",
-        ratio(0),
-        ratio(1)
-    );
+    times
+}
+
+fn ratio(ratios: impl Iterator<Item = f64>) -> String {
+    let (least, median, most) = spread(ratios);
+    format!("{median:.2} [{least:.2}, {most:.2}]")
 }
 
 /// The least, the median and the most.

@@ -14,11 +14,11 @@ pub enum Side {
 }
 
 /// What was said, in the sum.
-fn said(number: u64) -> u64 {
+pub fn said(number: u64) -> u64 {
     number.wrapping_mul(0xd134_2543_de82_ef95)
 }
 
-fn wrapped_registers(r: &ordinary::Registers) -> llobatelh::Registers {
+pub fn wrapped_registers(r: &ordinary::Registers) -> llobatelh::Registers {
     llobatelh::Registers {
         idr0: r.idr0,
         idr1: r.idr1,

@@ -5,7 +5,7 @@ ghost use mathlib.Core.Path.{_≡_};
 ghost use Prim.Native.Nat.{_+_, _≤_};
 ghost use lib.ListN.{length};
 ghost use Rattle.memory_image.specs.Extent.{below, endOf, extentOf, fetchRule, refusal2};
-ghost use Rattle.memory_image.specs.Words.{bytes, joined, word, wordOf};
+ghost use Rattle.memory_image.specs.Words.{bytes, word, wordOf};
 
 // The most bytes that are lent.
 pub const MEMORY_MOST: u64 = 65536;
@@ -94,33 +94,14 @@ pub fn word_of(memory: &[u8], place: usize, k: usize) -> u64
     eight(memory, at)
 }
 
-// Eight bytes, the lowest first, as one number.
-fn join(b0: u8, b1: u8, b2: u8, b3: u8, b4: u8, b5: u8, b6: u8, b7: u8) -> u64
-    ensures { λ r. ⌜ r ≡ joined b0 b1 b2 b3 b4 b5 b6 b7 ⌝ }
-{
-    b0 as u64
-        + b1 as u64 * (1 << 8)
-        + b2 as u64 * (1 << 16)
-        + b3 as u64 * (1 << 24)
-        + b4 as u64 * (1 << 32)
-        + b5 as u64 * (1 << 40)
-        + b6 as u64 * (1 << 48)
-        + b7 as u64 * (1 << 56)
-}
-
-// The word at an offset where one is.
+// The word at an offset where one is: byte n of it stands from bit 8n on.
 fn eight(memory: &[u8], at: usize) -> u64
     requires { ⌜ at + 8 ≤ length (now memory) ⌝ }
     ensures { λ r. ⌜ r ≡ word (bytes (now (memory .entry))) at ⌝ }
 {
-    join(
-        memory[at],
-        memory[at + 1],
-        memory[at + 2],
-        memory[at + 3],
-        memory[at + 4],
-        memory[at + 5],
-        memory[at + 6],
-        memory[at + 7],
-    )
+    let mut word: u64 = 0;
+    for n in 0..8 {
+        word |= (memory[at + n] as u64) << (8 * n);
+    }
+    word
 }
