@@ -12,6 +12,7 @@ mod sides;
 use beside::Build;
 use llobatelh::SLOTS_MOST;
 use sides::{lookups, second_program, Books, Side};
+use std::process::ExitCode;
 use std::time::{Duration, Instant};
 
 /// A round measures a side for about so long.
@@ -20,13 +21,23 @@ const ROUND: Duration = Duration::from_millis(20);
 /// So many rounds where none are asked for.
 const ROUNDS: usize = 31;
 
-fn main() -> Result<(), String> {
+fn main() -> ExitCode {
     let words: Vec<String> = std::env::args().skip(1).collect();
     let words: Vec<&str> = words.iter().map(String::as_str).collect();
-    match words[..] {
+    match run(&words) {
+        Ok(()) => ExitCode::SUCCESS,
+        Err(why) => {
+            eprintln!("bench: {why}");
+            ExitCode::from(2)
+        }
+    }
+}
+
+fn run(words: &[&str]) -> Result<(), String> {
+    match *words {
         [] => against_ordinary(ROUNDS),
-        ["beside", before, now] => return two_builds(before, now, ROUNDS),
-        ["beside", before, now, rounds] => return two_builds(before, now, number(rounds)?),
+        ["beside", before, now] => two_builds(before, now, ROUNDS)?,
+        ["beside", before, now, rounds] => two_builds(before, now, number(rounds)?)?,
         [rounds] => against_ordinary(number(rounds)?),
         _ => return Err("bench [ROUNDS], or bench beside BEFORE NOW [ROUNDS]".into()),
     }
