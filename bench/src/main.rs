@@ -51,6 +51,11 @@ fn number(word: &str) -> Result<usize, String> {
     }
 }
 
+/// What the numbers below it are.
+fn say(rounds: usize) {
+    println!("{rounds} rounds of about {ROUND:?} a side; ns a call: the median of the rounds; ratio: the median, [least, most]");
+}
+
 /// The sets of lookups that are measured.
 fn sets() -> [(&'static str, Vec<inputs::Input>); 3] {
     [
@@ -73,7 +78,7 @@ fn calls_of(inputs: &[inputs::Input]) -> usize {
 /// What a lookup takes by two builds of the archive.
 fn two_builds(before: &str, now: &str, rounds: usize) -> Result<(), String> {
     let builds = [Build::load(before)?, Build::load(now)?];
-    println!("{rounds} rounds of about {ROUND:?} a side; ns a call: the median of the rounds; ratio: the median, [least, most]");
+    say(rounds);
     println!(
         "{:34} {:>8} {:>8}  {:22} answers",
         "", "before", "now", "now / before"
@@ -84,7 +89,7 @@ fn two_builds(before: &str, now: &str, rounds: usize) -> Result<(), String> {
         let times = measured(name, rounds, calls_of(&inputs), expected, |place| {
             builds[place].lookups(&inputs)
         });
-        let [before, now] = [0, 1].map(|place| spread(times.iter().map(|t| t[place])).1);
+        let [before, now] = medians(&times);
         println!(
             "{name:34} {before:8.1} {now:8.1}  {:22} {}",
             ratio(times.iter().map(|time| time[1] / time[0])),
@@ -95,7 +100,7 @@ fn two_builds(before: &str, now: &str, rounds: usize) -> Result<(), String> {
 }
 
 fn against_ordinary(rounds: usize) {
-    println!("{rounds} rounds of about {ROUND:?} a side; ns a call: the median of the rounds; ratio: the median, [least, most]");
+    say(rounds);
     println!(
         "{:34} {:>8} {:>8} {:>8}  {:22} {:22}",
         "", "archive", "rust/", "ordinary", "archive / ordinary", "rust/ / ordinary"
@@ -152,8 +157,7 @@ fn measure(
     let times = measured(name, rounds, calls, [expected; 3], |place| {
         pass(SIDES[place])
     });
-    let [archive, wrapper, ordinary] =
-        [0, 1, 2].map(|place| spread(times.iter().map(|t| t[place])).1);
+    let [archive, wrapper, ordinary] = medians(&times);
     println!(
         "{name:34} {archive:8.1} {wrapper:8.1} {ordinary:8.1}  {:22} {:22}",
         ratio(times.iter().map(|time| time[0] / time[2])),
@@ -194,6 +198,11 @@ fn measured<const SIDES: usize>(
         times.push(time);
     }
     times
+}
+
+/// Each side's.
+fn medians<const SIDES: usize>(times: &[[f64; SIDES]]) -> [f64; SIDES] {
+    std::array::from_fn(|place| spread(times.iter().map(|time| time[place])).1)
 }
 
 fn ratio(ratios: impl Iterator<Item = f64>) -> String {
