@@ -1,5 +1,5 @@
 //! What a lookup answers.
-//! Follows RULES, "What an answer holds".
+//! Follows RULES, "What an answer holds", and the customer's request E2: a failed fetch says which address it wanted.
 
 use crate::registers::Registers;
 
@@ -21,6 +21,9 @@ pub const EVENTS: [u64; 7] = [
     F_CD_FETCH,
     C_BAD_CD,
 ];
+
+/// The events of a failed fetch, which hold the address that it wanted.
+pub const FETCHES: [u64; 2] = [F_STE_FETCH, F_CD_FETCH];
 
 /// Unserved: stage 2.
 pub const STAGE_2: u64 = 20;
@@ -47,26 +50,91 @@ pub struct Translation {
     pub ttb0: u64,
 }
 
-/// The outcome of a lookup. Event and unserved numbers are plain numbers, so that a book can hold
-/// one that the rules do not list and refusal 7 can find it.
+/// An abort's event, one of those that the rules list. The two of a failed fetch hold the address that it
+/// wanted; no other event can hold one.
+#[derive(Clone, Copy, Debug, PartialEq, Eq)]
+pub enum Event {
+    BadStreamId,
+    /// The L1STD or the STE was wanted at this address.
+    SteFetch {
+        wanted: u64,
+    },
+    BadSte,
+    StreamDisabled,
+    BadSubstreamId,
+    /// The L1CD or the CD was wanted at this address.
+    CdFetch {
+        wanted: u64,
+    },
+    BadCd,
+}
+
+impl Event {
+    /// The event with this number; none where the rules list no such event. The address is not looked at
+    /// where the event holds none.
+    pub fn of(number: u64, wanted: u64) -> Option<Event> {
+        match number {
+            C_BAD_STREAMID => Some(Event::BadStreamId),
+            F_STE_FETCH => Some(Event::SteFetch { wanted }),
+            C_BAD_STE => Some(Event::BadSte),
+            F_STREAM_DISABLED => Some(Event::StreamDisabled),
+            C_BAD_SUBSTREAMID => Some(Event::BadSubstreamId),
+            F_CD_FETCH => Some(Event::CdFetch { wanted }),
+            C_BAD_CD => Some(Event::BadCd),
+            _ => None,
+        }
+    }
+
+    pub fn number(self) -> u64 {
+        match self {
+            Event::BadStreamId => C_BAD_STREAMID,
+            Event::SteFetch { .. } => F_STE_FETCH,
+            Event::BadSte => C_BAD_STE,
+            Event::StreamDisabled => F_STREAM_DISABLED,
+            Event::BadSubstreamId => C_BAD_SUBSTREAMID,
+            Event::CdFetch { .. } => F_CD_FETCH,
+            Event::BadCd => C_BAD_CD,
+        }
+    }
+
+    /// The address that the failed fetch wanted.
+    pub fn wanted(self) -> Option<u64> {
+        match self {
+            Event::SteFetch { wanted } | Event::CdFetch { wanted } => Some(wanted),
+            _ => None,
+        }
+    }
+}
+
+/// The outcome of a lookup. An unserved number is a plain number, so that a book can hold one that the
+/// rules do not list and refusal 7 can find it. An event is one that they list: a book's words that have
+/// another stand for no book (`book_words`).
 #[derive(Clone, Copy, Debug, PartialEq, Eq)]
 pub enum Outcome {
     Translate(Translation),
     Bypass { ste: u64 },
     GlobalBypass,
-    Abort { event: u64 },
+    Abort(Event),
     QuietAbort,
     Unserved { number: u64 },
 }
 
 impl Outcome {
+    /// The address that the fetch wanted which ended the lookup.
+    pub fn wanted(&self) -> Option<u64> {
+        match self {
+            Outcome::Abort(event) => event.wanted(),
+            _ => None,
+        }
+    }
+
     /// The outcome's word in reports and scripts.
     pub fn word(&self, registers: &Registers) -> &'static str {
         match self {
             Outcome::Translate(_) => "translate",
             Outcome::Bypass { .. } | Outcome::GlobalBypass => "bypass",
-            Outcome::Abort { event } if recorded(*event, registers) => "abort",
-            Outcome::Abort { .. } => "unrecorded",
+            Outcome::Abort(event) if recorded(event.number(), registers) => "abort",
+            Outcome::Abort(_) => "unrecorded",
             Outcome::QuietAbort => "quiet",
             Outcome::Unserved { .. } => "unserved",
         }
@@ -85,7 +153,8 @@ pub struct Piece {
     pub length: u64,
 }
 
-/// The outcome and the list of descriptors fetched, in order.
+/// The outcome and the list of descriptors fetched, in order. Two are equal where all of it is, the address
+/// that a failed fetch wanted among it.
 #[derive(Clone, Debug, PartialEq, Eq)]
 pub struct Answer {
     pub outcome: Outcome,

@@ -1,7 +1,7 @@
 //! The book: opening, ask and notice.
 //! Follows RULES, "The book", and refusals 4 to 7 of "When the bench says no".
 
-use crate::answer::{Answer, Outcome, EVENTS, UNSERVED};
+use crate::answer::{Answer, Outcome, UNSERVED};
 use crate::lookup::lookup;
 use crate::memory::Memory;
 use crate::refusal::{check_1, check_2, check_3, refuse_if, Refusal, END_OF_ADDRESSES};
@@ -195,9 +195,8 @@ fn holds_wrongly(held: &Held) -> bool {
         || list.iter().any(|piece| {
             u128::from(piece.address) + u128::from(piece.length) > END_OF_ADDRESSES
         })
-        // A held event or unserved number isn't one listed.
+        // A held unserved number isn't one listed. A held event always is: `Event` has no other.
         || match held.answer.outcome {
-            Outcome::Abort { event } => !EVENTS.contains(&event),
             Outcome::Unserved { number } => !UNSERVED.contains(&number),
             _ => false,
         }

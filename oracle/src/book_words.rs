@@ -1,7 +1,7 @@
 //! A book as 1,227 words, and an answer as 18; and the book's calls on such words.
 //! Follows refusal 7 of the rules and what include/llobatelh.h says of the words, under "Answers" and "The book".
 
-use crate::answer::{Answer, Outcome, Piece, Translation};
+use crate::answer::{Answer, Event, Outcome, Piece, Translation};
 use crate::book::{self, Book, Held, Kept};
 use crate::memory::Memory;
 use crate::refusal::Refusal;
@@ -20,6 +20,8 @@ pub const LENGTH: usize = 10;
 /// In an answer's words.
 pub const KIND: usize = 0;
 pub const EVENT: usize = 1;
+/// The address that the fetch wanted, of events 0x03 and 0x09; another event does not use the word.
+pub const WANTED: usize = 2;
 pub const ASID: usize = 3;
 pub const T0SZ: usize = 4;
 pub const TG0: usize = 5;
@@ -120,7 +122,7 @@ fn decode_answer(words: &[u64]) -> Option<Answer> {
         }),
         2 => Outcome::Bypass { ste: words[1] },
         3 => Outcome::GlobalBypass,
-        4 => Outcome::Abort { event: words[1] },
+        4 => Outcome::Abort(Event::of(words[EVENT], words[WANTED])?),
         5 => Outcome::QuietAbort,
         6 => Outcome::Unserved { number: words[1] },
         _ => return None,
@@ -182,7 +184,7 @@ pub fn encode_answer(answer: &Answer) -> AnswerWords {
         Outcome::Translate(t) => &[1, t.ste, t.cd, t.asid, t.t0sz, t.tg0, t.epd0, t.ips, t.ttb0],
         Outcome::Bypass { ste } => &[2, *ste],
         Outcome::GlobalBypass => &[3],
-        Outcome::Abort { event } => &[4, *event],
+        Outcome::Abort(event) => &[4, event.number(), event.wanted().unwrap_or(0)],
         Outcome::QuietAbort => &[5],
         Outcome::Unserved { number } => &[6, *number],
     };

@@ -64,7 +64,8 @@ pub(crate) fn low_bits_as_0(address: u64, count: u64) -> u64 {
     address >> count << count
 }
 
-/// The address of an entry of a table: `pointer + size x index`, exact.
-pub(crate) fn entry(pointer: u64, size: u64, index: u64) -> u128 {
-    u128::from(pointer) + u128::from(size) * u128::from(index)
+/// The address of an entry of a table: `pointer + size x index`, exact. A pointer has 56 bits, a size is 64
+/// at most and an index has 32 bits, so that the sum is below 2^57.
+pub(crate) fn entry(pointer: u64, size: u64, index: u64) -> u64 {
+    pointer + size * index
 }

@@ -1,5 +1,6 @@
-//! The independent second program: all of the rules, written from the text of the customer's document 01 alone, which
-//! docs/RULES.md restates. A comment that says RULES names a section by the heading that both have.
+//! The independent second program: all of the rules, written from the text of the customer's document 01, which
+//! docs/RULES.md restates, and of request E2 of his document 02 (the address that a failed fetch wanted).
+//! A comment that says RULES names a section by the heading that both have.
 //!
 //! `field` to `report` are the rules, in their order; `script` is the script language of
 //! docs/SCRIPT.md; `scripts` makes scripts to compare the two programs on, and counts what they reach.

@@ -8,7 +8,7 @@ use std::ops::ControlFlow::{self, Break, Continue};
 use crate::answer::*;
 use crate::descriptors::{Cd, Kind, L1cd, L1std, Ste};
 use crate::field::{entry, low_bits_as_0, word};
-use crate::memory::Memory;
+use crate::memory::{Failed, Memory};
 use crate::refusal::{check_1, check_2, check_3, Refusal};
 use crate::registers::{effective_ips, Registers};
 use crate::request::Request;
@@ -50,7 +50,7 @@ impl Trace {
 #[derive(Clone, Copy, Debug, PartialEq, Eq)]
 pub struct Try {
     pub kind: Kind,
-    pub address: u128,
+    pub address: u64,
     pub word: Option<u128>,
 }
 
@@ -136,29 +136,43 @@ impl<'a> Walk<'_, 'a> {
     }
 
     /// Notes a rule and ends the lookup with an abort and its event.
-    fn abort<T>(&mut self, rule: &'static str, event: u64) -> Next<T> {
-        self.end(rule, Outcome::Abort { event })
+    fn abort<T>(&mut self, rule: &'static str, event: Event) -> Next<T> {
+        self.end(rule, Outcome::Abort(event))
     }
 
-    /// Fetches a descriptor and puts it on the list; none where the fetch fails.
-    fn fetch(&mut self, kind: Kind, address: u128) -> Option<Fetched<'a>> {
+    /// Fetches a descriptor and puts it on the list, or ends the lookup where the fetch fails.
+    fn fetch(&mut self, kind: Kind, address: u64) -> Next<Fetched<'a>> {
         let length = kind.length();
-        let bytes = self.memory.fetch(address, length, self.oas_size);
-        let word = bytes.map(word);
+        let fetched = self.memory.fetch(address, length, self.oas_size);
         self.trace.tries.push(Try {
             kind,
             address,
-            word,
+            word: fetched.ok().map(word),
         });
-        let (bytes, word) = (bytes?, word?);
-        // It ends at or below 2^52, so nothing is cut off.
-        let address = address as u64;
-        self.list.push(Piece { address, length });
-        Some(Fetched {
-            address,
-            bytes,
-            word,
-        })
+        match fetched {
+            Ok(bytes) => {
+                self.list.push(Piece { address, length });
+                let word = word(bytes);
+                Continue(Fetched {
+                    address,
+                    bytes,
+                    word,
+                })
+            }
+            Err(failed) => self.fails(kind, failed),
+        }
+    }
+
+    /// "F_STE_FETCH before the STE is had, F_CD_FETCH after", with the address that was wanted.
+    fn fails<T>(&mut self, kind: Kind, Failed { wanted }: Failed) -> Next<T> {
+        let of_ste = Event::SteFetch { wanted };
+        let of_cd = Event::CdFetch { wanted };
+        match kind {
+            Kind::L1std => self.abort("stream-4.L1STD-fetch-fails", of_ste),
+            Kind::Ste => self.abort("stream.STE-fetch-fails", of_ste),
+            Kind::L1cd => self.abort("cd.L1CD-fetch-fails", of_cd),
+            Kind::Cd => self.abort("cd.CD-fetch-fails", of_cd),
+        }
     }
 
     // From StreamID to STE.
@@ -181,7 +195,7 @@ impl<'a> Walk<'_, 'a> {
         // 2. The effective LOG2SIZE is at most 32.
         let log2size = registers.effective_log2size();
         if stream >= 1 << log2size {
-            return self.abort("stream-2.out-of-range", C_BAD_STREAMID);
+            return self.abort("stream-2.out-of-range", Event::BadStreamId);
         }
         // 3, or 4 to 6.
         let address = if registers.st_level() == 0 {
@@ -193,41 +207,37 @@ impl<'a> Walk<'_, 'a> {
         } else {
             self.two_level(stream, log2size)?
         };
-        let Some(fetched) = self.fetch(Kind::Ste, address) else {
-            return self.abort("stream.STE-fetch-fails", F_STE_FETCH);
-        };
+        let fetched = self.fetch(Kind::Ste, address)?;
         self.ste = fetched.bytes;
         Continue((fetched.address, Ste::read(fetched.word)))
     }
 
     /// Step 3: ADDR's bits below LOG2SIZE + 6 are taken as 0.
-    fn linear(&self, stream: u64, log2size: u64) -> u128 {
+    fn linear(&self, stream: u64, log2size: u64) -> u64 {
         let addr = low_bits_as_0(self.registers.addr(), log2size + 6);
         entry(addr, 64, stream)
     }
 
     /// Steps 4 to 6.
-    fn two_level(&mut self, stream: u64, log2size: u64) -> Next<u128> {
+    fn two_level(&mut self, stream: u64, log2size: u64) -> Next<u64> {
         // 4. ADDR's bits N to 0 are taken as 0.
         let split = self.registers.effective_split();
         let n = 5.max((log2size + 2).saturating_sub(split));
         let addr = low_bits_as_0(self.registers.addr(), n + 1);
-        let Some(fetched) = self.fetch(Kind::L1std, entry(addr, 8, stream >> split)) else {
-            return self.abort("stream-4.L1STD-fetch-fails", F_STE_FETCH);
-        };
+        let fetched = self.fetch(Kind::L1std, entry(addr, 8, stream >> split))?;
         let l1std = L1std::read(fetched.word);
         // 5.
         let low_bits = stream % (1 << split);
         let stes = match l1std.span {
-            0 => return self.abort("stream-5.Span-0", C_BAD_STREAMID),
+            0 => return self.abort("stream-5.Span-0", Event::BadStreamId),
             1..=11 => 1 << (l1std.span - 1),
-            _ => return self.abort("stream-5.Span-12-to-31", C_BAD_STREAMID),
+            _ => return self.abort("stream-5.Span-12-to-31", Event::BadStreamId),
         };
         if l1std.span > split + 1 {
-            return self.abort("stream-5.Span-above-SPLIT+1", C_BAD_STREAMID);
+            return self.abort("stream-5.Span-above-SPLIT+1", Event::BadStreamId);
         }
         if low_bits >= stes {
-            return self.abort("stream-5.low-bits-reach", C_BAD_STREAMID);
+            return self.abort("stream-5.low-bits-reach", Event::BadStreamId);
         }
         // 6. L2Ptr's bits N to 0 are taken as 0, N = 5 + (Span - 1).
         self.rule("stream-6.L2Ptr");
@@ -246,7 +256,7 @@ impl<'a> Walk<'_, 'a> {
         let config_11x = ste.config & 0b110 == 0b110;
         // 1.
         if ste.v == 0 {
-            return self.abort("ste-1.V-0", C_BAD_STE);
+            return self.abort("ste-1.V-0", Event::BadSte);
         }
         // 2. Config 0xx.
         if ste.config & 0b100 == 0 {
@@ -254,10 +264,10 @@ impl<'a> Walk<'_, 'a> {
         }
         // 3.
         if config_1x1 && registers.s1p() == 0 {
-            return self.abort("ste-3.S1P-0", C_BAD_STE);
+            return self.abort("ste-3.S1P-0", Event::BadSte);
         }
         if config_11x && registers.s2p() == 0 {
-            return self.abort("ste-3.S2P-0", C_BAD_STE);
+            return self.abort("ste-3.S2P-0", Event::BadSte);
         }
         // 4.
         if config_11x {
@@ -267,23 +277,23 @@ impl<'a> Walk<'_, 'a> {
         // 5.
         if ste.config == 0b100 {
             return match self.request.substream {
-                Some(_) => self.abort("ste-5.with-SubstreamID", C_BAD_SUBSTREAMID),
+                Some(_) => self.abort("ste-5.with-SubstreamID", Event::BadSubstreamId),
                 None => self.end("ste-5.bypass", bypass),
             };
         }
         // 6. Config 101 from here.
         if ste.s1cdmax > registers.ssidsize() {
-            return self.abort("ste-6.S1CDMax-above-SSIDSIZE", C_BAD_STE);
+            return self.abort("ste-6.S1CDMax-above-SSIDSIZE", Event::BadSte);
         }
         if ste.s1cdmax > 0 {
             if ste.s1fmt == 3 {
-                return self.abort("ste-6.S1Fmt-3", C_BAD_STE);
+                return self.abort("ste-6.S1Fmt-3", Event::BadSte);
             }
             if ste.s1fmt != 0 && registers.cd2l() == 0 {
-                return self.abort("ste-6.S1Fmt-not-0-CD2L-0", C_BAD_STE);
+                return self.abort("ste-6.S1Fmt-not-0-CD2L-0", Event::BadSte);
             }
             if ste.s1dss == 3 {
-                return self.abort("ste-6.S1DSS-3", C_BAD_STE);
+                return self.abort("ste-6.S1DSS-3", Event::BadSte);
             }
         }
         // 7.
@@ -301,13 +311,13 @@ impl<'a> Walk<'_, 'a> {
     /// Step 8 with a SubstreamID.
     fn with_substream(&mut self, ste: &Ste, substream: u64) -> Next<u64> {
         if ste.s1cdmax == 0 {
-            return self.abort("ste-8.S1CDMax-0-with-SubstreamID", C_BAD_SUBSTREAMID);
+            return self.abort("ste-8.S1CDMax-0-with-SubstreamID", Event::BadSubstreamId);
         }
         if substream >= 1 << ste.s1cdmax {
-            return self.abort("ste-8.SubstreamID-out-of-range", C_BAD_SUBSTREAMID);
+            return self.abort("ste-8.SubstreamID-out-of-range", Event::BadSubstreamId);
         }
         if substream == 0 && ste.s1dss == 2 {
-            return self.abort("ste-8.SubstreamID-0-S1DSS-2", F_STREAM_DISABLED);
+            return self.abort("ste-8.SubstreamID-0-S1DSS-2", Event::StreamDisabled);
         }
         self.rule("ste-8.with-SubstreamID");
         Continue(substream)
@@ -320,7 +330,7 @@ impl<'a> Walk<'_, 'a> {
             return Continue(0);
         }
         match ste.s1dss {
-            0 => self.abort("ste-8.S1DSS-0", F_STREAM_DISABLED),
+            0 => self.abort("ste-8.S1DSS-0", Event::StreamDisabled),
             1 => self.end("ste-8.S1DSS-1", bypass),
             _ => {
                 self.rule("ste-8.S1DSS-2");
@@ -334,29 +344,25 @@ impl<'a> Walk<'_, 'a> {
     /// The CD and its address.
     fn substream_to_cd(&mut self, ste: &Ste, index: u64) -> Next<(u64, Cd)> {
         let address = self.cd_address(ste, index)?;
-        let Some(fetched) = self.fetch(Kind::Cd, address) else {
-            return self.abort("cd.CD-fetch-fails", F_CD_FETCH);
-        };
+        let fetched = self.fetch(Kind::Cd, address)?;
         Continue((fetched.address, Cd::read(fetched.word)))
     }
 
     /// Where the CD is. Neither S1ContextPtr nor L2Ptr is aligned down. S1Fmt 3 ended at step 6.
-    fn cd_address(&mut self, ste: &Ste, index: u64) -> Next<u128> {
+    fn cd_address(&mut self, ste: &Ste, index: u64) -> Next<u64> {
         if ste.s1cdmax == 0 {
             self.rule("cd.the-one-CD");
-            return Continue(ste.s1contextptr.into());
+            return Continue(ste.s1contextptr);
         }
         let Some(leaf_bits) = ste.leaf_bits() else {
             self.rule("cd.S1Fmt-0");
             return Continue(entry(ste.s1contextptr, 64, index));
         };
         let l1cd_address = entry(ste.s1contextptr, 8, index >> leaf_bits);
-        let Some(fetched) = self.fetch(Kind::L1cd, l1cd_address) else {
-            return self.abort("cd.L1CD-fetch-fails", F_CD_FETCH);
-        };
+        let fetched = self.fetch(Kind::L1cd, l1cd_address)?;
         let l1cd = L1cd::read(fetched.word);
         if l1cd.v == 0 {
-            return self.abort("cd.L1CD-V-0", C_BAD_SUBSTREAMID);
+            return self.abort("cd.L1CD-V-0", Event::BadSubstreamId);
         }
         Continue(entry(l1cd.l2ptr, 64, index % (1 << leaf_bits)))
     }
@@ -367,36 +373,36 @@ impl<'a> Walk<'_, 'a> {
         let ttf_high = self.registers.ttf() & 0b10 != 0;
         let ips = effective_ips(cd.ips, self.oas_size);
         if cd.v == 0 {
-            return self.abort("cd.V-0", C_BAD_CD);
+            return self.abort("cd.V-0", Event::BadCd);
         }
         if cd.aa64 == 0 && ttf_low {
             let number = VMSAV8_32;
             return self.end("cd.AA64-0-unserved-21", Outcome::Unserved { number });
         }
         if cd.aa64 == 0 {
-            return self.abort("cd.AA64-0-TTF-low-bit-clear", C_BAD_CD);
+            return self.abort("cd.AA64-0-TTF-low-bit-clear", Event::BadCd);
         }
         if !ttf_high {
-            return self.abort("cd.AA64-1-TTF-high-bit-clear", C_BAD_CD);
+            return self.abort("cd.AA64-1-TTF-high-bit-clear", Event::BadCd);
         }
         if cd.epd0 == 1 {
             self.rule("cd.EPD0-1-accepted");
             return Continue(ips);
         }
         if cd.tg0 == 3 {
-            return self.abort("cd.TG0-3", C_BAD_CD);
+            return self.abort("cd.TG0-3", Event::BadCd);
         }
         if !self.granule_in_idr5(cd.tg0) {
-            return self.abort("cd.granule-not-in-IDR5", C_BAD_CD);
+            return self.abort("cd.granule-not-in-IDR5", Event::BadCd);
         }
         if cd.t0sz < 16 {
-            return self.abort("cd.T0SZ-below-16", C_BAD_CD);
+            return self.abort("cd.T0SZ-below-16", Event::BadCd);
         }
         if cd.t0sz > 39 {
-            return self.abort("cd.T0SZ-above-39", C_BAD_CD);
+            return self.abort("cd.T0SZ-above-39", Event::BadCd);
         }
         if cd.ttb0 >= 1 << ips {
-            return self.abort("cd.TTB0-reaches", C_BAD_CD);
+            return self.abort("cd.TTB0-reaches", Event::BadCd);
         }
         self.rule("cd.accepted");
         Continue(ips)

@@ -3,6 +3,12 @@
 
 use std::ops::Range;
 
+/// A fetch that failed: the address that it wanted, as it was computed.
+#[derive(Clone, Copy, Debug, PartialEq, Eq)]
+pub struct Failed {
+    pub wanted: u64,
+}
+
 /// A base address and a lent run of bytes.
 #[derive(Clone, Copy, Debug)]
 pub struct Memory<'a> {
@@ -16,13 +22,19 @@ impl<'a> Memory<'a> {
     }
 
     /// A descriptor is fetched exactly if it lies wholly in the memory and ends at or below 2^(OAS size).
-    pub(crate) fn fetch(self, address: u128, length: u64, oas_size: u64) -> Option<&'a [u8]> {
-        let length = u128::from(length);
-        let place = place(self.base, self.length(), address, length)?;
-        if address + length > 1 << oas_size {
-            return None;
-        }
-        self.bytes.get(place)
+    /// A fetch that fails says which address it wanted, with the bits at or above the OAS.
+    pub(crate) fn fetch(
+        self,
+        address: u64,
+        length: u64,
+        oas_size: u64,
+    ) -> Result<&'a [u8], Failed> {
+        let end = u128::from(address) + u128::from(length);
+        let place = place(self.base, self.length(), address.into(), length.into());
+        place
+            .filter(|_| end <= 1 << oas_size)
+            .and_then(|place| self.bytes.get(place))
+            .ok_or(Failed { wanted: address })
     }
 }
 

@@ -1,15 +1,18 @@
 //! The report of a book.
-//! Follows the second half of RULES, "The book", and refusal 8 of "When the bench says no".
+//! Follows the second half of RULES, "The book", with the column that request E2 adds, and refusal 8 of "When the bench says no".
 
 use crate::answer::Outcome;
 use crate::book::{check_7, Book, Held};
 use crate::refusal::{refuse_if, Refusal};
 use crate::registers::Registers;
 
-const HEADER: &str = "slot\tstream\tsubstream\toutcome\tevent\n";
+const HEADER: &str = "slot\tstream\tsubstream\toutcome\tevent\taddress\n";
 
-/// The length of the longest report: the header and 64 lines of at most 32 bytes.
-pub const LONGEST: usize = HEADER.len() + 64 * 32;
+/// The length of the shortest report: the header alone.
+pub const SHORTEST: usize = HEADER.len();
+
+/// The length of the longest report, 2,860: the header and 64 lines of at most 44 bytes.
+pub const LONGEST: usize = HEADER.len() + 64 * 44;
 
 /// Writes the report into the buffer and gives its length; later bytes stay as they were.
 /// Order of the refusals: 7, 8.
@@ -37,9 +40,13 @@ fn line(slot: usize, held: &Held, registers: &Registers) -> String {
     };
     let outcome = held.answer.outcome.word(registers);
     let event = match held.answer.outcome {
-        Outcome::Abort { event } => format!("{event:02X}"),
+        Outcome::Abort(event) => format!("{:02X}", event.number()),
         Outcome::Unserved { number } => number.to_string(),
         _ => "-".to_string(),
     };
-    format!("{slot}\t{stream:08x}\t{substream}\t{outcome}\t{event}\n")
+    let address = match held.answer.outcome.wanted() {
+        Some(wanted) => format!("{wanted:016x}"),
+        None => "-".to_string(),
+    };
+    format!("{slot}\t{stream:08x}\t{substream}\t{outcome}\t{event}\t{address}\n")
 }

@@ -3,7 +3,7 @@
 
 use std::io::{self, BufRead, Read, Write};
 
-use crate::answer::{Answer, Outcome};
+use crate::answer::{Answer, Event, Outcome};
 use crate::book::{ask, notice, open, Book, Kept};
 use crate::lookup::{lookup, part};
 use crate::memory::{place, Memory};
@@ -401,7 +401,7 @@ fn answer_words(answer: &Answer, registers: &Registers) -> String {
         ),
         Outcome::Bypass { ste } => format!(" ste {ste:#x}"),
         Outcome::GlobalBypass => " global".to_string(),
-        Outcome::Abort { event } => format!(" {event:02X}"),
+        Outcome::Abort(event) => format!(" {:02X}{}", event.number(), wanted_words(event)),
         Outcome::QuietAbort => String::new(),
         Outcome::Unserved { number } => format!(" {number}"),
     };
@@ -415,6 +415,12 @@ fn answer_words(answer: &Answer, registers: &Registers) -> String {
         }
     };
     format!("{word}{rest} read{list}")
+}
+
+/// The address that a failed fetch wanted.
+fn wanted_words(event: Event) -> String {
+    let wanted = event.wanted();
+    wanted.map_or(String::new(), |wanted| format!(" address {wanted:#x}"))
 }
 
 // The run: "What is wrong with a line".

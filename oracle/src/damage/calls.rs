@@ -6,7 +6,7 @@ use super::harm::Harm;
 use crate::book_words::{
     self, answer, key, register_words, request, Words, BASE, COUNT, LENGTH, PIECES,
 };
-use crate::report::LONGEST;
+use crate::report::{LONGEST, SHORTEST};
 use crate::scripts::Random;
 
 const END: u64 = 1 << 52;
@@ -135,7 +135,7 @@ fn notice(random: &mut Random, case: &mut Case) {
 /// A buffer as long as the text, one byte shorter, longer, and empty.
 fn report(random: &mut Random, case: &mut Case) {
     let mut room = [0; LONGEST];
-    let text = book_words::report(&case.lent.book, &mut room).unwrap_or(36) as u64;
+    let text = book_words::report(&case.lent.book, &mut room).unwrap_or(SHORTEST) as u64;
     case.out_length = random.pick(&[
         text,
         text,
@@ -145,7 +145,7 @@ fn report(random: &mut Random, case: &mut Case) {
         LONGEST as u64,
         OUT_BYTES as u64,
         0,
-        35,
+        SHORTEST as u64 - 1,
     ]);
 }
 

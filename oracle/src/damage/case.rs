@@ -6,8 +6,8 @@ use crate::book_words::{AnswerWords, Words, ANSWER_WORDS, BOOK_WORDS};
 /// The memory that the program holds: more than can be lent, so that too much can be.
 pub const MEMORY_BYTES: usize = 65_600;
 
-/// The report's buffer that the program holds: more than is lent of it.
-pub const OUT_BYTES: usize = 2_112;
+/// The report's buffer that the program holds: more than the longest report. c/damage.c has the same number.
+pub const OUT_BYTES: usize = 2_888;
 
 /// How many bytes come back for a case: what was said, and all that was lent.
 pub const TOLD_BYTES: usize = 8 * (1 + 7 + BOOK_WORDS + ANSWER_WORDS + 1) + OUT_BYTES;
@@ -89,7 +89,7 @@ impl Case {
 }
 
 impl Lent {
-    fn bytes(&self) -> Vec<u8> {
+    pub(super) fn bytes(&self) -> Vec<u8> {
         let Lent {
             registers,
             book,

@@ -45,3 +45,60 @@ pub fn compare(seed: u64, cases: u64, mut input: impl Read) -> io::Result<Tally>
 fn different(tally: &Tally, what: &str) -> Error {
     Error::other(format!("DIFFERENT at case {}: {what}", tally.cases))
 }
+
+#[cfg(test)]
+mod tests {
+    use super::super::case::Call;
+    use super::*;
+    use crate::answer::FETCHES;
+    use crate::book_words::{EVENT, KIND, WANTED};
+
+    const SEED: u64 = 5;
+    const CASES: u64 = 400;
+
+    /// What c/damage.c would write if the archive said what this program says, with a change made to it.
+    fn written(mut change: impl FnMut(Call, &mut Told)) -> Vec<u8> {
+        let mut memory = Box::new([0; MEMORY_BYTES]);
+        let mut text = Vec::new();
+        let each = |record: Record| {
+            match record {
+                Record::Memory(next) => {
+                    text.extend_from_slice(memory.as_slice());
+                    memory.copy_from_slice(next);
+                }
+                Record::Case(case) => {
+                    let mut told = case.told(&memory);
+                    change(case.call, &mut told);
+                    text.extend(told.said.to_le_bytes());
+                    text.extend(told.lent.bytes());
+                }
+            }
+            Ok(())
+        };
+        records(SEED, CASES, each).unwrap();
+        text
+    }
+
+    #[test]
+    fn the_same_is_no_difference() {
+        let same = written(|_, _| {});
+        let tally = compare(SEED, CASES, same.as_slice()).unwrap();
+        assert_eq!(tally.cases, CASES);
+    }
+
+    #[test]
+    fn another_address_is_a_difference() {
+        let mut left = 1;
+        let other = written(|call, told| {
+            let words = &mut told.lent.answer;
+            let of_a_fetch = words[KIND] == 4 && FETCHES.contains(&words[EVENT]);
+            if call == Call::Ask && told.said == 100 && of_a_fetch && left > 0 {
+                words[WANTED] ^= 1 << 55;
+                left -= 1;
+            }
+        });
+        assert_eq!(left, 0);
+        let error = compare(SEED, CASES, other.as_slice()).err().unwrap();
+        assert!(error.to_string().contains("the answer, word 2"), "{error}");
+    }
+}

@@ -23,6 +23,8 @@ pub enum Harm {
     KeyOfAnother,
     Kind,
     EventOrCase,
+    AnyAddress,
+    AddressOfNoFetch,
     FieldTooWide,
     CountOfPieces,
     PieceAtTheEnd,
@@ -33,7 +35,7 @@ pub enum Harm {
 }
 
 impl Harm {
-    pub const ALL: [Harm; 20] = [
+    pub const ALL: [Harm; 22] = [
         Harm::None,
         Harm::SingleBit,
         Harm::SwappedWords,
@@ -47,6 +49,8 @@ impl Harm {
         Harm::KeyOfAnother,
         Harm::Kind,
         Harm::EventOrCase,
+        Harm::AnyAddress,
+        Harm::AddressOfNoFetch,
         Harm::FieldTooWide,
         Harm::CountOfPieces,
         Harm::PieceAtTheEnd,
@@ -71,6 +75,8 @@ impl Harm {
             Harm::KeyOfAnother => "a key of another request",
             Harm::Kind => "another kind",
             Harm::EventOrCase => "another event or case",
+            Harm::AnyAddress => "any address of a fetch",
+            Harm::AddressOfNoFetch => "an address of no fetch",
             Harm::FieldTooWide => "a field at its width",
             Harm::CountOfPieces => "another count of pieces",
             Harm::PieceAtTheEnd => "a piece at 2^52",
@@ -79,6 +85,14 @@ impl Harm {
             Harm::AllRandom => "all words random",
             Harm::AllZero => "all words 0",
         }
+    }
+
+    /// Whether it leaves a valid book valid, whatever it does.
+    pub fn is_never_refused(self) -> bool {
+        matches!(
+            self,
+            Harm::None | Harm::AnyAddress | Harm::AddressOfNoFetch | Harm::WordsNotLookedAt
+        )
     }
 
     /// Does it. Where the book holds nothing that it could be done to, the words stay.
@@ -97,6 +111,8 @@ impl Harm {
             Harm::KeyOfAnother => keys::key_of_another(random, words),
             Harm::Kind => answers::kind(random, words),
             Harm::EventOrCase => answers::event_or_case(random, words),
+            Harm::AnyAddress => answers::any_address(random, words),
+            Harm::AddressOfNoFetch => answers::address_of_no_fetch(random, words),
             Harm::FieldTooWide => answers::field_at_its_width(random, words),
             Harm::CountOfPieces => answers::count_of_pieces(random, words),
             Harm::PieceAtTheEnd => answers::piece_at_the_end(random, words),

@@ -1,8 +1,10 @@
 //! What the cases reached: how many of each kind of damage, of each refusal, of each answer.
 
+use super::books::held;
 use super::case::{Call, Case, Told};
 use super::harm::Harm;
-use crate::book_words::{COUNT, EVENT, KIND};
+use crate::answer::FETCHES;
+use crate::book_words::{answer, key, request, COUNT, EVENT, KIND, WANTED};
 use std::collections::BTreeMap;
 
 /// Counts by name. The names that must be reached are there from the start.
@@ -32,9 +34,23 @@ const ANSWERS: &str =
     "translate bypass global-bypass abort-2 abort-3 abort-4 abort-6 abort-8 abort-9 abort-10 \
     quiet unserved-20 unserved-21 unserved-22 pieces-0 pieces-1 pieces-2 pieces-3 pieces-4";
 
+/// What stands in the word of the address which a failed fetch wanted: in a lookup's answer, in the slot that an ask answers from, and in
+/// the slots of a report. No lookup wants one of 2^57 or more. The last is a number there of an abort with another event.
+const ADDRESSES: &[(&str, &str)] = &[
+    ("looked up", "address-below-2^52 address-from-2^52-on"),
+    (
+        "kept",
+        "address-below-2^52 address-from-2^52-on address-from-2^57-on address-of-no-fetch",
+    ),
+    (
+        "report",
+        "address-below-2^52 address-from-2^52-on address-from-2^57-on address-of-no-fetch",
+    ),
+];
+
 impl Default for Tally {
     fn default() -> Tally {
-        let said = CALLS.iter().flat_map(|(call, said)| {
+        let said = CALLS.iter().chain(ADDRESSES).flat_map(|(call, said)| {
             let said = said.split_whitespace();
             said.map(move |said| format!("{call} {said}"))
         });
@@ -74,10 +90,44 @@ impl Tally {
         row[place] += 1;
         self.reach(said(case, told));
         match (case.call, told.said) {
-            (Call::Lookup, 0) | (Call::Ask, 101 | 102) => self.answer("looked up", told),
-            (Call::Ask, 100) => self.answer("kept", told),
+            (Call::Lookup, 0) | (Call::Ask, 101 | 102) => {
+                self.answer("looked up", told);
+                self.address("looked up", &told.lent.answer);
+            }
+            (Call::Ask, 100) => {
+                self.answer("kept", told);
+                let asked = Some(case.request().numbers());
+                self.slots("kept", case, |key| request(key) == asked);
+            }
+            (Call::Report, 0) => self.slots("report", case, |_| true),
             _ => {}
         }
+    }
+
+    /// The words of the address in the slots with such a key.
+    fn slots(&mut self, from: &str, case: &Case, is_meant: impl Fn(u64) -> bool) {
+        let book = &case.lent.book;
+        for slot in held(book) {
+            if is_meant(book[key(slot)]) {
+                self.address(from, &book[answer(slot)..]);
+            }
+        }
+    }
+
+    /// The word of the address in an answer's words.
+    fn address(&mut self, from: &str, words: &[u64]) {
+        const TWO_52: u64 = 1 << 52;
+        const TWO_57: u64 = 1 << 57;
+        let of_a_fetch = FETCHES.contains(&words[EVENT]);
+        let name = match words[WANTED] {
+            _ if words[KIND] != 4 => return,
+            0 if !of_a_fetch => return,
+            _ if !of_a_fetch => "of-no-fetch",
+            0..TWO_52 => "below-2^52",
+            TWO_52..TWO_57 => "from-2^52-on",
+            _ => "from-2^57-on",
+        };
+        self.reach(format!("{from} address-{name}"));
     }
 
     fn answer(&mut self, from: &str, told: &Told) {

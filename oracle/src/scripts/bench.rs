@@ -239,9 +239,9 @@ impl Bench {
         };
         let tries = self.walk(zero).map(|walked| walked.trace.tries);
         let first = tries.and_then(|tries| tries.first().copied());
-        let target = u128::from(self.an_address()) + self.random.pick(&[0, 0, 8, 56]);
+        let target = self.an_address() + self.random.pick(&[0, 0, 8, 56]);
         let distance = first.and_then(|first| target.checked_sub(first.address));
-        let distance = distance.map_or(0, |distance| distance as u64);
+        let distance = distance.unwrap_or(0);
         let any = self.random.below(streams);
         let stream = if first.is_some_and(|first| first.kind == Kind::L1std) {
             let table = self.random.pick(&[any >> split, distance / 8]);
@@ -294,7 +294,7 @@ impl Bench {
             let Some(last) = tries.as_ref().and_then(|tries| tries.last()) else {
                 return;
             };
-            let (kind, address) = (last.kind, last.address as u64);
+            let (kind, address) = (last.kind, last.address);
             let met = self.bytes_at(address, kind.length());
             if !met.is_some_and(|bytes| bytes.iter().all(|byte| *byte == 0)) {
                 return;
@@ -313,7 +313,7 @@ impl Bench {
             bytes = self.candidate(kind, request);
             self.overlay(address, &bytes);
             let goes_on = self.walk(request).is_some_and(|walked| {
-                let aborts = matches!(walked.answer.outcome, Outcome::Abort { .. });
+                let aborts = matches!(walked.answer.outcome, Outcome::Abort(_));
                 !aborts || walked.answer.list.len() > depth
             });
             self.overlay(address, &blank);

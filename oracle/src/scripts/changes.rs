@@ -56,7 +56,7 @@ fn change_field(bench: &mut Bench, trace: &Trace) -> Option<Command> {
     let met = a_fetched(bench, trace)?;
     let (field, values) = bench.random.pick(edges::of_descriptor(met.kind));
     let value = bench.random.pick(values);
-    bench.put_field(met.address as u64, field, value)
+    bench.put_field(met.address, field, value)
 }
 
 /// Sets TTB0 at the end of the effective IPS, or the bits above it.
@@ -70,7 +70,7 @@ fn change_ttb0(bench: &mut Bench, request: Request, trace: &Trace) -> Option<Com
     let value = bench
         .random
         .pick(&[limit - 1, limit, limit * 2, limit - 2, 0, u64::MAX]);
-    bench.put_field(met.address as u64, cd::TTB0, value)
+    bench.put_field(met.address, cd::TTB0, value)
 }
 
 /// Sets a field of a register to an edge.
@@ -98,28 +98,48 @@ fn change_unread_bits(bench: &mut Bench, trace: &Trace) -> Option<Command> {
     let unread = noise & !edges::read_bits_of_descriptor(met.kind);
     let new = (met.word? ^ unread).to_le_bytes();
     let length = met.kind.length().min(16) as usize;
-    bench.put(met.address as u64, &new[..length])
+    bench.put(met.address, &new[..length])
 }
 
 /// Moves the pointer to a descriptor, the request, or first the one and then the other, so that the
 /// descriptor comes to lie at an edge, or nearly so.
 fn aim(bench: &mut Bench, request: &mut Request) -> Vec<Command> {
-    let mut back = Vec::new();
     let met = trace(bench, *request);
     let Some(place) = a_place(bench, &met.tries) else {
-        return back;
+        return Vec::new();
     };
+    let edge = an_edge(bench, met.tries[place].kind);
+    aim_at(bench, request, &met, place, edge)
+}
+
+/// The same for the descriptor at this place of the tries, if there is one, so that its fetch fails.
+pub fn aim_outside(bench: &mut Bench, request: &mut Request, place: usize) -> Vec<Command> {
+    let met = trace(bench, *request);
+    let Some(aimed) = met.tries.get(place) else {
+        return Vec::new();
+    };
+    let outside = an_outside(bench, aimed.kind);
+    aim_at(bench, request, &met, place, outside)
+}
+
+fn aim_at(
+    bench: &mut Bench,
+    request: &mut Request,
+    met: &Trace,
+    place: usize,
+    edge: i128,
+) -> Vec<Command> {
+    let mut back = Vec::new();
     let kind = met.tries[place].kind;
-    let edge = an_edge(bench, kind);
     let ste = met.tries.iter().find(|met| met.kind == Kind::Ste);
     if let (Some(ste), Kind::L1cd | Kind::Cd) = (ste, kind) {
         let most = bench.session.registers.ssidsize();
         if bench.random.percent(60) {
-            back.extend(bench.put_field(ste.address as u64, ste::S1CDMAX, most));
+            back.extend(bench.put_field(ste.address, ste::S1CDMAX, most));
         }
     }
     if bench.random.percent(75) {
-        back.extend(aim_pointer(bench, &met, place, edge));
+        back.extend(aim_pointer(bench, met, place, edge));
     }
     if bench.random.percent(70) {
         let met = trace(bench, *request);
@@ -130,7 +150,7 @@ fn aim(bench: &mut Bench, request: &mut Request) -> Vec<Command> {
 
 /// Moves the pointer to the descriptor at this place of the tries by its distance to the edge.
 fn aim_pointer(bench: &mut Bench, trace: &Trace, place: usize, edge: i128) -> Option<Command> {
-    let distance = edge - trace.tries.get(place)?.address as i128;
+    let distance = edge - i128::from(trace.tries.get(place)?.address);
     let moved = |pointer: u64| (i128::from(pointer) + distance) as u64;
     let Some(before) = place.checked_sub(1) else {
         let old = bench.session.registers.strtab_base;
@@ -141,7 +161,7 @@ fn aim_pointer(bench: &mut Bench, trace: &Trace, place: usize, edge: i128) -> Op
     let holder = trace.tries[before];
     let field = edges::pointer_of(holder.kind);
     let value = moved(field.address(holder.word?)) >> field.low();
-    bench.put_field(holder.address as u64, field, value)
+    bench.put_field(holder.address, field, value)
 }
 
 /// Moves the StreamID or SubstreamID by that distance.
@@ -149,7 +169,7 @@ fn aim_request(bench: &Bench, request: &mut Request, trace: &Trace, place: usize
     let Some(aimed) = trace.tries.get(place) else {
         return;
     };
-    let steps = (edge - aimed.address as i128) / i128::from(aimed.kind.length());
+    let steps = (edge - i128::from(aimed.address)) / i128::from(aimed.kind.length());
     let split = bench.session.registers.effective_split();
     let ste = trace.fetched(Kind::Ste).map(Ste::read);
     let leaf_bits = ste.and_then(|ste| ste.leaf_bits()).unwrap_or(0);
@@ -186,6 +206,37 @@ fn an_edge(bench: &mut Bench, kind: Kind) -> i128 {
         top,
         end - length + top,
         end - length + high_bit,
+        1 << 56,
+    ])
+}
+
+/// Edits the pointer to the descriptor at this place of the tries, so that its fetch fails if the pointer can be so;
+/// gives the line that takes it back.
+pub fn misdirect(bench: &mut Bench, request: Request, place: usize) -> Option<Command> {
+    let trace = trace(bench, request);
+    let kind = trace.tries.get(place)?.kind;
+    let outside = an_outside(bench, kind);
+    aim_pointer(bench, &trace, place, outside)
+}
+
+/// Where the fetch of a descriptor fails: below the memory, past its end, across it, above the OAS.
+fn an_outside(bench: &mut Bench, kind: Kind) -> i128 {
+    let length = i128::from(kind.length());
+    let start = i128::from(bench.session.base);
+    let end = start + bench.session.bytes.len() as i128;
+    let top = 1 << bench.session.registers.oas_size().unwrap_or(52);
+    let far = i128::from(bench.random.below(1 << 36));
+    bench.random.pick(&[
+        start - length,
+        start / 2,
+        end,
+        end + far,
+        end / length * length,
+        top,
+        top + far,
+        start + top,
+        (1 << 56) - length,
+        1 << 56,
     ])
 }
 

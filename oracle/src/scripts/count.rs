@@ -1,17 +1,17 @@
 //! Counts what scripts reach: every outcome, event, refusal and rule, both sides of every boundary,
 //! what becomes of a book, and every reason of docs/SCRIPT.md. One that is never reached counts 0.
 
-use std::collections::BTreeMap;
+use std::collections::{BTreeMap, BTreeSet};
 
-use crate::answer::{recorded, Outcome};
-use crate::book::Book;
+use crate::answer::{recorded, Answer, Outcome};
+use crate::book::{Book, Held};
 use crate::descriptors::{Cd, Kind, L1cd, L1std, Ste};
 use crate::field::entry;
 use crate::lookup::{lookup, walk, Try, Walked};
 use crate::memory::Memory;
 use crate::refusal::END_OF_ADDRESSES;
 use crate::registers::{effective_ips, size_in_bits, Registers};
-use crate::request::Request;
+use crate::request::{Request, StreamId, SubstreamId};
 use crate::script::{parse, Command, Reason, Session, LONGEST_LINE};
 
 /// How often each thing was reached.
@@ -31,9 +31,9 @@ impl Counts {
 
     /// A line `NAME COUNT` for each name of the list, in its order.
     pub fn lines(&self) -> String {
-        let names = NAMES.iter().flat_map(|names| names.split_whitespace());
+        let names = names().into_iter();
         names
-            .map(|name| format!("{name} {}\n", self.of(name)))
+            .map(|name| format!("{name} {}\n", self.of(&name)))
             .collect()
     }
 
@@ -48,6 +48,13 @@ impl Counts {
     }
 }
 
+/// What became of the book that is open: which slots were used, and what the notices of edits struck.
+#[derive(Default)]
+struct Past {
+    used: BTreeSet<usize>,
+    struck: BTreeMap<(u64, Option<u64>), Answer>,
+}
+
 // Lines.
 
 impl Counts {
@@ -55,7 +62,7 @@ impl Counts {
     pub fn script(&mut self, script: &[u8]) {
         self.reach("total.scripts");
         let mut session = Session::default();
-        let mut used = [false; 64];
+        let mut past = Past::default();
         for line in script.split_inclusive(|byte| *byte == b'\n') {
             self.reach("total.lines");
             self.form(line);
@@ -70,7 +77,7 @@ impl Counts {
             self.before(&session, &command);
             let book = session.book.clone();
             match session.run(&command) {
-                Ok(text) => self.after(&session, &book, &command, &text, &mut used),
+                Ok(text) => self.after(&session, &book, &command, &text, &mut past),
                 Err(reason) => return self.wrong(reason),
             }
         }
@@ -107,7 +114,7 @@ impl Counts {
         book: &Book,
         command: &Command,
         text: &str,
-        used: &mut [bool; 64],
+        past: &mut Past,
     ) {
         let words: Vec<&str> = text.split_whitespace().take(2).collect();
         let wrote = match words.as_slice() {
@@ -133,17 +140,17 @@ impl Counts {
             Command::Open { .. } => {
                 self.reach("total.opens");
                 self.reach(format!("open.{wrote}"));
-                self.opened(book, &session.book, &wrote, used);
+                self.opened(book, &session.book, &wrote, past);
             }
             Command::Ask(request) => {
                 self.reach("total.asks");
                 self.reach(format!("ask.{wrote}"));
-                self.asked(session, book, *request, &wrote, used);
+                self.asked(session, book, *request, &wrote, past);
             }
             Command::Notice { length, .. } => {
                 self.reach("total.notices");
                 self.reach(format!("notice.{wrote}"));
-                self.struck(book, &session.book, *length);
+                self.struck(session, book, *length, past);
             }
             Command::Report => {
                 self.reach("total.reports");
@@ -195,10 +202,10 @@ impl Counts {
         };
         self.reach(format!("outcome.{name}"));
         match outcome {
-            Outcome::Abort { event: 2 } if !recorded(2, registers) => {
+            Outcome::Abort(event) if !recorded(event.number(), registers) => {
                 self.reach("event.02-unrecorded");
             }
-            Outcome::Abort { event } => self.reach(format!("event.{event:02X}")),
+            Outcome::Abort(event) => self.reach(format!("event.{:02X}", event.number())),
             Outcome::Unserved { number } => self.reach(format!("unserved.{number}")),
             _ => {}
         }
@@ -367,20 +374,17 @@ impl Counts {
     }
 
     fn fetch_edges(&mut self, registers: &Registers, memory: Memory, tried: &Try) {
-        let kind = match tried.kind {
-            Kind::L1std => "L1STD",
-            Kind::Ste => "STE",
-            Kind::L1cd => "L1CD",
-            Kind::Cd => "CD",
-        };
-        let (start, end) = (
-            tried.address,
-            tried.address + u128::from(tried.kind.length()),
-        );
-        let memory_start = u128::from(memory.base);
-        let memory_end = memory_start + u128::from(memory.length());
-        let top = 1 << registers.oas_size().unwrap_or(52);
-        let in_memory = memory_start <= start && end <= memory_end;
+        let of_it = KINDS.iter().find(|(kind, _)| *kind == tried.kind);
+        let kind = of_it.map_or("", |(_, name)| name);
+        let stand = Stand::of(registers, memory, tried);
+        let in_memory = stand.in_memory();
+        let Stand {
+            start,
+            end,
+            memory_start,
+            memory_end,
+            top,
+        } = stand;
         let edges = match tried.word {
             Some(_) => [
                 (true, "had"),
@@ -403,16 +407,23 @@ impl Counts {
         }
         let cut = start >= top && (memory_start..memory_end).contains(&(start % top));
         self.reach_if(cut, "fetch.would-be-had-if-cut-off");
+        if tried.word.is_none() {
+            for (way, applies) in WAYS {
+                self.reach_if(applies(&stand), wanted(kind, way));
+            }
+            self.reach_if(start >= 1 << 52, "fetch.wanted-at-2^52-or-above");
+            self.reach_if(start >= 1 << 56, "fetch.wanted-at-2^56-or-above");
+        }
     }
 }
 
 // The book.
 
 impl Counts {
-    fn opened(&mut self, before: &Book, after: &Book, wrote: &str, used: &mut [bool; 64]) {
+    fn opened(&mut self, before: &Book, after: &Book, wrote: &str, past: &mut Past) {
         let held_before = before.held_slots().count() > 0;
         if wrote == "opened" {
-            *used = [false; 64];
+            *past = Past::default();
             self.reach_if(held_before, "book.replaced-by-opening");
             self.reach_if(after.slots == 1, "book.of-1-slot");
             self.reach_if(after.slots == 64, "book.of-64-slots");
@@ -427,7 +438,7 @@ impl Counts {
         before: &Book,
         request: Request,
         wrote: &str,
-        used: &mut [bool; 64],
+        past: &mut Past,
     ) {
         let book = &session.book;
         let memory = session.memory();
@@ -439,16 +450,26 @@ impl Counts {
                 let fresh = lookup(&book.registers, memory, request).ok();
                 let held = book.held_for(request).map(|held| &held.answer);
                 self.reach_if(fresh.as_ref() != held, "ask.kept-before-and-stale");
+                if let Some((fresh, held)) = fresh.as_ref().zip(held) {
+                    self.kept_address(held);
+                    let alone = differ_in_the_address_alone(held, fresh);
+                    self.reach_if(alone, "ask.stale-in-the-address-alone");
+                }
                 let other = book.registers != session.registers;
                 self.reach_if(other, "ask.with-other-registers-than-the-books");
             }
             "newly-kept" => {
                 let new = |slot: &usize| before.held[*slot].is_none() && book.held[*slot].is_some();
                 if let Some(slot) = (0..64).find(new) {
-                    self.reach_if(used[slot], "ask.newly-kept-in-a-struck-slot");
-                    used[slot] = true;
+                    let again = !past.used.insert(slot);
+                    self.reach_if(again, "ask.newly-kept-in-a-struck-slot");
                     self.reach_if(slot == 63, "ask.newly-kept-in-slot-63");
                 }
+                let new = book.held_for(request).map(|held| &held.answer);
+                let old = past.struck.remove(&request.numbers());
+                let both = old.as_ref().zip(new);
+                let alone = both.is_some_and(|(old, new)| differ_in_the_address_alone(old, new));
+                self.reach_if(alone, "ask.newly-kept-and-new-in-the-address-alone");
             }
             "refused-6" => {
                 self.reach_if(memory.base != book.base, "refusal-6.base");
@@ -457,6 +478,14 @@ impl Counts {
                 self.reach_if(both, "refusal-6.before-3");
             }
             _ => {}
+        }
+    }
+
+    /// An answer that comes from its slot with the address that a failed fetch wanted.
+    fn kept_address(&mut self, held: &Answer) {
+        if let Outcome::Abort(event) = held.outcome {
+            let name = format!("ask.kept-before-with-address-{:02X}", event.number());
+            self.reach_if(event.wanted().is_some(), name);
         }
     }
 
@@ -489,7 +518,15 @@ impl Counts {
         }
     }
 
-    fn struck(&mut self, before: &Book, after: &Book, length: u64) {
+    fn struck(&mut self, session: &Session, before: &Book, length: u64, past: &mut Past) {
+        let after = &session.book;
+        for (slot, held) in before.held_slots() {
+            let fresh = || lookup(&after.registers, session.memory(), request_of(held)).ok();
+            // Struck, and by now a lookup gives another answer: it is the notice of an edit.
+            if after.held[slot].is_none() && fresh().is_some_and(|fresh| fresh != held.answer) {
+                past.struck.insert(held.request(), held.answer.clone());
+            }
+        }
         let gone = before.held_slots().count() - after.held_slots().count();
         let stayed = after.held_slots().count();
         self.reach_if(length == 0, "notice.length-0");
@@ -514,16 +551,116 @@ impl Counts {
             .any(|(place, row)| slot(row) != Some(place));
         self.reach_if(gap, "report.with-an-empty-slot-between");
         for row in rows {
-            if let [_, _, substream, outcome, _] = row.as_slice() {
+            if let [_, _, substream, outcome, event, address] = row.as_slice() {
                 self.reach(format!("report.{outcome}"));
                 self.reach_if(*substream != "-", "report.with-SubstreamID");
+                self.reach_if(*address != "-", format!("report.with-address-{event}"));
             }
         }
     }
 }
 
-/// All names, in the order in which they are printed.
-pub const NAMES: &[&str] = &[
+/// The request of a held slot of a book that is not malformed.
+fn request_of(held: &Held) -> Request {
+    Request {
+        stream: StreamId(held.stream as u32),
+        substream: held.substream.map(SubstreamId),
+    }
+}
+
+/// Whether two answers have the same event and the same list, and yet differ: in the address that a failed
+/// fetch wanted.
+fn differ_in_the_address_alone(one: &Answer, other: &Answer) -> bool {
+    let event = |answer: &Answer| match answer.outcome {
+        Outcome::Abort(event) => Some(event.number()),
+        _ => None,
+    };
+    one != other && one.list == other.list && event(one).is_some() && event(one) == event(other)
+}
+
+/// Where a descriptor that a fetch wanted stands to the memory and to the end of the OAS.
+struct Stand {
+    start: u128,
+    end: u128,
+    memory_start: u128,
+    memory_end: u128,
+    top: u128,
+}
+
+impl Stand {
+    fn of(registers: &Registers, memory: Memory, tried: &Try) -> Stand {
+        let start = u128::from(tried.address);
+        let memory_start = u128::from(memory.base);
+        Stand {
+            start,
+            end: start + u128::from(tried.kind.length()),
+            memory_start,
+            memory_end: memory_start + u128::from(memory.length()),
+            top: 1 << registers.oas_size().unwrap_or(52),
+        }
+    }
+
+    fn in_memory(&self) -> bool {
+        self.memory_start <= self.start && self.end <= self.memory_end
+    }
+
+    /// The same without the bits at or above the OAS.
+    fn cut_off(&self) -> Stand {
+        let start = self.start % self.top;
+        let end = start + (self.end - self.start);
+        Stand {
+            start,
+            end,
+            ..*self
+        }
+    }
+}
+
+/// The kinds of descriptor, by their names.
+const KINDS: [(Kind, &str); 4] = [
+    (Kind::L1std, "L1STD"),
+    (Kind::Ste, "STE"),
+    (Kind::L1cd, "L1CD"),
+    (Kind::Cd, "CD"),
+];
+
+/// A way in which a fetch fails: its name, and whether it is the one thing that is wrong.
+type Way = (&'static str, fn(&Stand) -> bool);
+
+/// The ways in which a fetch fails. A descriptor starts at a multiple of its length, and the memory's start and the end of the OAS
+/// are multiples of 64: no descriptor lies across either of these.
+const WAYS: [Way; 4] = [
+    ("below-memory", |at| {
+        at.end <= at.top && at.start < at.memory_start
+    }),
+    ("past-memory", |at| {
+        at.end <= at.top && at.start >= at.memory_end
+    }),
+    ("across-memory-end", |at| {
+        let starts_inside = (at.memory_start..at.memory_end).contains(&at.start);
+        at.end <= at.top && starts_inside && at.end > at.memory_end
+    }),
+    // It lies in the memory, or would without the bits that are kept.
+    ("above-OAS", |at| {
+        at.end > at.top && (at.in_memory() || at.cut_off().in_memory())
+    }),
+];
+
+/// The name of a kind's fetch that fails in some way.
+fn wanted(kind: &str, way: &str) -> String {
+    format!("fetch.{kind}.wanted-{way}")
+}
+
+/// All names, in the order in which they are printed: those of the list, and each kind of fetch in each way in which it fails.
+pub fn names() -> Vec<String> {
+    let listed = NAMES.iter().flat_map(|names| names.split_whitespace());
+    let kinds = KINDS.iter();
+    let failing = kinds.flat_map(|(_, kind)| WAYS.iter().map(|(way, _)| wanted(kind, way)));
+    listed.map(str::to_string).chain(failing).collect()
+}
+
+/// The names that stand alone.
+const NAMES: &[&str] = &[
     "total.scripts total.lines total.registers total.memories total.edits total.lookups total.parts",
     "total.opens total.asks total.notices total.reports",
     "outcome.translate outcome.bypass outcome.global-bypass outcome.abort outcome.unrecorded",
@@ -588,10 +725,12 @@ pub const NAMES: &[&str] = &[
     "fetch.CD.had fetch.CD.had-at-memory-start fetch.CD.had-at-memory-end",
     "fetch.CD.had-at-OAS-end fetch.CD.fails-before-memory fetch.CD.fails-after-memory",
     "fetch.CD.fails-across-memory-end fetch.CD.fails-after-OAS-in-memory",
-    "fetch.would-be-had-if-cut-off",
+    "fetch.would-be-had-if-cut-off fetch.wanted-at-2^52-or-above fetch.wanted-at-2^56-or-above",
     "book.of-1-slot book.of-64-slots book.replaced-by-opening book.stays-when-opening-is-refused",
     "ask.kept-before-and-stale ask.with-other-registers-than-the-books",
     "ask.newly-kept-in-a-struck-slot ask.newly-kept-in-slot-63",
+    "ask.kept-before-with-address-03 ask.kept-before-with-address-09 ask.stale-in-the-address-alone",
+    "ask.newly-kept-and-new-in-the-address-alone",
     "notice.sum-past-2^64 notice.ends-at-2^52 notice.ends-at-2^52+1 notice.length-0",
     "notice.length-0-at-a-piece notice.first-byte-of-8 notice.first-byte-of-64",
     "notice.last-byte-of-8 notice.last-byte-of-64 notice.byte-before-8 notice.byte-before-64",
@@ -601,6 +740,7 @@ pub const NAMES: &[&str] = &[
     "notice.strikes-some-but-not-all",
     "report.rows-0 report.rows-64 report.with-an-empty-slot-between report.with-SubstreamID",
     "report.translate report.bypass report.abort report.unrecorded report.quiet report.unserved",
+    "report.with-address-03 report.with-address-09",
     "fill.COUNT-0 line.does-nothing line.without-LF line.with-CR line.with-tab line.of-4096-bytes",
     "wrong.the-line-is-too-long wrong.no-such-command wrong.too-few-words wrong.too-many-words",
     "wrong.no-such-register wrong.not-a-number wrong.the-number-is-too-large",

@@ -2,7 +2,7 @@
 //! pieces, full books, struck and reused slots, books opened again, reports.
 
 use super::bench::Bench;
-use super::changes::{change, edit, take_back};
+use super::changes::{aim_outside, change, edit, misdirect, take_back};
 use crate::answer::Piece;
 use crate::registers::{Register, RECINVSID};
 use crate::request::{Request, StreamId, SubstreamId};
@@ -77,9 +77,10 @@ fn pool(bench: &mut Bench, furnished: &[Request], slots: u64) -> Vec<Request> {
 fn step(bench: &mut Bench, pool: &[Request], slots: u64) {
     let request = bench.random.pick(pool);
     match bench.random.below(100) {
-        0..=35 => {
+        0..=31 => {
             bench.say(Command::Ask(request));
         }
+        32..=35 => misdirect_and_ask(bench, request),
         36..=40 => ask_at_an_edge(bench, request),
         41 => {
             let substream = bench.random.pick(&[(1 << 20) - 1, 1 << 20, u64::MAX]);
@@ -109,10 +110,16 @@ fn step(bench: &mut Bench, pool: &[Request], slots: u64) {
     }
 }
 
-/// Asks for a request that a change at an edge leads to.
+/// Asks for a request that a change at an edge leads to, or with a fetch that is aimed at a place where it fails.
 fn ask_at_an_edge(bench: &mut Bench, request: Request) {
     let mut changed = request;
-    let back = change(bench, &mut changed);
+    let back = match bench.random.percent(60) {
+        true => change(bench, &mut changed),
+        false => {
+            let place = bench.random.below(4) as usize;
+            aim_outside(bench, &mut changed, place)
+        }
+    };
     bench.say(Command::Ask(changed));
     take_back(bench, back);
 }
@@ -131,6 +138,31 @@ fn edit_and_ask(bench: &mut Bench, request: Request, with_notice: bool) {
         if with_notice {
             notice_of(bench, &back);
         }
+    }
+}
+
+/// Points out of the memory for a descriptor of the request, and then elsewhere out of it, and asks each time: two answers that
+/// can differ in the address alone. The notice is given, or left out after the second edit.
+fn misdirect_and_ask(bench: &mut Bench, request: Request) {
+    let deepest = bench.depth(request).max(1) as u64;
+    let place = 1 + bench.random.below(deepest.min(3)) as usize;
+    let mut back = Vec::new();
+    for with_notice in [true, bench.random.percent(70)] {
+        let Some(edit) = misdirect(bench, request, place) else {
+            continue;
+        };
+        if with_notice {
+            notice_of(bench, &edit);
+        }
+        bench.say(Command::Ask(request));
+        back.push(edit);
+    }
+    if bench.random.percent(30) {
+        bench.say(Command::Report);
+    }
+    for edit in back.into_iter().rev() {
+        bench.say(edit.clone());
+        notice_of(bench, &edit);
     }
 }
 

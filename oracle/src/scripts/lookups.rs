@@ -2,7 +2,7 @@
 //! and mostly taken back.
 
 use super::bench::Bench;
-use super::changes::{change, take_back};
+use super::changes::{aim_outside, change, take_back};
 use crate::registers::Register;
 use crate::request::{Request, StreamId, SubstreamId};
 use crate::script::Command;
@@ -52,6 +52,18 @@ fn stage(bench: &mut Bench) {
         if !stays {
             take_back(bench, back);
         }
+    }
+    failed_fetches(bench, &requests);
+}
+
+/// Each fetch of a lookup that goes deep, aimed at a place where it fails.
+fn failed_fetches(bench: &mut Bench, requests: &[Request]) {
+    let home = a_deep_one(bench, requests);
+    for place in 0..4 {
+        let mut request = home;
+        let back = aim_outside(bench, &mut request, place);
+        bench.say(Command::Lookup(request));
+        take_back(bench, back);
     }
 }
 

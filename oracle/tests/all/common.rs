@@ -1,6 +1,6 @@
 //! What the tests share: 004's figure as RULES, "Shots on the bench", sets it up, and short ways to say things.
 
-use oracle::answer::{Answer, Outcome, Piece, Translation};
+use oracle::answer::{Answer, Event, Outcome, Piece, Translation};
 use oracle::descriptors::ste;
 use oracle::field::Field;
 use oracle::lookup::lookup;
@@ -58,8 +58,18 @@ pub fn answer(outcome: Outcome, pieces: &[(u64, u64)]) -> Result<Answer, Refusal
     Ok(Answer { outcome, list })
 }
 
-pub fn abort(event: u64) -> Outcome {
-    Outcome::Abort { event }
+/// An abort with an event that has no address.
+pub fn abort(number: u64) -> Outcome {
+    let event = Event::of(number, 0).unwrap();
+    assert_eq!(event.wanted(), None);
+    Outcome::Abort(event)
+}
+
+/// An abort by a fetch that failed, with the address that it wanted.
+pub fn failed(number: u64, wanted: u64) -> Outcome {
+    let event = Event::of(number, wanted).unwrap();
+    assert_eq!(event.wanted(), Some(wanted));
+    Outcome::Abort(event)
 }
 
 pub fn bypass(ste: u64) -> Outcome {

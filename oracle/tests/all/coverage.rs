@@ -5,7 +5,7 @@ use std::fs;
 use std::process::{Command, Output};
 
 use oracle::script::{parse, run, Command as Line, Reason};
-use oracle::scripts::count::{Counts, NAMES};
+use oracle::scripts::count::{names, Counts};
 use oracle::scripts::{script, wrong_script, Sort};
 
 const SEED: u64 = 1;
@@ -18,29 +18,24 @@ fn counts(sort: Sort, scripts: u64) -> Counts {
     counts
 }
 
-fn names() -> Vec<&'static str> {
-    let names = NAMES.iter().flat_map(|names| names.split_whitespace());
-    names.collect()
-}
-
 #[test]
 fn sixty_scripts_reach_everything_once_and_300_five_times() {
     for (scripts, floor) in [(60, 1), (300, 5)] {
         let counts = counts(Sort::Mixed, scripts);
-        let names = names().into_iter();
-        let rare: Vec<&str> = names.filter(|name| counts.of(name) < floor).collect();
-        assert_eq!(rare, Vec::<&str>::new(), "of {scripts} scripts");
+        let mut rare = names();
+        rare.retain(|name| counts.of(name) < floor);
+        assert_eq!(rare, Vec::<String>::new(), "of {scripts} scripts");
     }
 }
 
 #[test]
 fn every_name_is_in_the_list_once() {
-    let listed: BTreeSet<&str> = names().into_iter().collect();
+    let listed: BTreeSet<String> = names().into_iter().collect();
     assert_eq!(listed.len(), names().len());
     let counts = counts(Sort::Mixed, 300);
     let unlisted: Vec<&str> = counts
         .reached()
-        .filter(|name| !listed.contains(name))
+        .filter(|name| !listed.contains(*name))
         .collect();
     assert_eq!(unlisted, Vec::<&str>::new());
 }
@@ -122,7 +117,7 @@ fn the_same_seed_gives_the_same_bytes_on_every_machine() {
             }
         }
     }
-    assert_eq!(hash, 10_704_342_847_167_680_590);
+    assert_eq!(hash, 2_249_623_816_651_412_516);
     assert_ne!(script(Sort::Mixed, 1, 0), script(Sort::Mixed, 2, 0));
     assert_ne!(script(Sort::Mixed, 1, 0), script(Sort::Mixed, 1, 2));
 }

@@ -202,10 +202,12 @@ fn any_book(random: &mut Random) -> Book {
         };
         let count = random.below(6) as usize;
         let number = random.pick(&[2, 10, 20, 22, 23, u64::MAX]);
+        let wanted = random.pick(&[0, 1 << 52, u64::MAX]);
         let outcome = random.pick(&[
             Outcome::QuietAbort,
             Outcome::GlobalBypass,
-            abort(number),
+            abort(0x0a),
+            failed(0x09, wanted),
             Outcome::Unserved { number },
         ]);
         book.held[slot] = Some(Held {

@@ -114,27 +114,27 @@ newly-kept bypass ste 0x2f00 read 0x8008+8 0x2f00+64
 newly-kept abort 02 read 0x8008+8
 kept-before bypass ste 0x2f00 read 0x8008+8 0x2f00+64
 not-kept bypass ste 0x0 read 0x8000+8 0x0+64
-slot\tstream\tsubstream\toutcome\tevent
-0\t00000100\t-\tbypass\t-
-1\t00000104\t-\tabort\t02
+slot\tstream\tsubstream\toutcome\tevent\taddress
+0\t00000100\t-\tbypass\t-\t-
+1\t00000104\t-\tabort\t02\t-
 noticed
 newly-kept bypass ste 0x0 read 0x8000+8 0x0+64
 refused 3
 refused 5
 refused 4
-slot\tstream\tsubstream\toutcome\tevent
-0\t00000000\t-\tbypass\t-
-1\t00000104\t-\tabort\t02
+slot\tstream\tsubstream\toutcome\tevent\taddress
+0\t00000000\t-\tbypass\t-\t-
+1\t00000104\t-\tabort\t02\t-
 kept-before abort 02 read 0x8008+8
 unrecorded 02 read 0x8008+8
 refused 6
 kept-before abort 02 read 0x8008+8
 not-kept abort 02 read 0x8000+8
 opened
-slot\tstream\tsubstream\toutcome\tevent
+slot\tstream\tsubstream\toutcome\tevent\taddress
 newly-kept unrecorded 02 read -
-slot\tstream\tsubstream\toutcome\tevent
-0\t00000400\t-\tunrecorded\t02
+slot\tstream\tsubstream\toutcome\tevent\taddress
+0\t00000400\t-\tunrecorded\t02\t-
 ";
     assert_eq!(output(script), expected);
 }
@@ -143,20 +143,50 @@ slot\tstream\tsubstream\toutcome\tevent
 fn the_report_of_every_outcome() {
     let script = figure_script()
         + "write 0x4000 0bc00000000000400100000000000000\nwrite 0xc000 0040008000020000\n"
-        + "write 0x0 01\nwrite 0x40 0d\nopen 64\n"
-        + "ask 768 0\nask 768\nask 512\nask 0\nask 1\nask 1048575 1048575\nask 768 171\nreport\n";
+        + "write 0x0 01\nwrite 0x40 0d\nwrite 0x80 0bf0ffffffffff00\nwrite 0x8008 0100010000000000\nopen 64\n"
+        + "ask 768 0\nask 768\nask 512\nask 0\nask 1\nask 1048575 1048575\nask 768 171\nask 256\nask 2\n"
+        + "report\n";
     let written = output(script);
     let report = written.split_once("slot\t").unwrap().1;
-    let expected = "stream\tsubstream\toutcome\tevent
-0\t00000300\t00000\ttranslate\t-
-1\t00000300\t-\tbypass\t-
-2\t00000200\t-\tabort\t02
-3\t00000000\t-\tquiet\t-
-4\t00000001\t-\tunserved\t20
-5\t000fffff\tfffff\tabort\t02
-6\t00000300\t000ab\tabort\t0A
+    let expected = "stream\tsubstream\toutcome\tevent\taddress
+0\t00000300\t00000\ttranslate\t-\t-
+1\t00000300\t-\tbypass\t-\t-
+2\t00000200\t-\tabort\t02\t-
+3\t00000000\t-\tquiet\t-\t-
+4\t00000001\t-\tunserved\t20\t-
+5\t000fffff\tfffff\tabort\t02\t-
+6\t00000300\t000ab\tabort\t0A\t-
+7\t00000100\t-\tabort\t03\t0000000000010000
+8\t00000002\t-\tabort\t09\t00fffffffffff000
 ";
     assert_eq!(report, expected);
+}
+
+#[test]
+fn an_abort_by_a_fetch_says_the_address_before_the_list() {
+    let script = figure_script()
+        + "write 0x8018 0100010000000000\nlookup 768\nopen 1\nask 768\nask 768\n"
+        + "write 0x8018 c1ffffffffffffff\nask 768\nlookup 768\nnotice 0x8018 8\nask 768\nask 0\nreport\n"
+        + "write 0x8018 0140000000000000\nwrite 0x4000 0bf00000000000400000000000000000\nlookup 768 70\n"
+        + "register strtab_base 0x1000000\nlookup 768\nregister strtab_base 0\n"
+        + "memory 64 128\nlookup 0\n";
+    let expected = "\
+abort 03 address 0x10000 read 0x8018+8
+opened
+newly-kept abort 03 address 0x10000 read 0x8018+8
+kept-before abort 03 address 0x10000 read 0x8018+8
+kept-before abort 03 address 0x10000 read 0x8018+8
+abort 03 address 0xffffffffffffc0 read 0x8018+8
+noticed
+newly-kept abort 03 address 0xffffffffffffc0 read 0x8018+8
+not-kept bypass ste 0x0 read 0x8000+8 0x0+64
+slot\tstream\tsubstream\toutcome\tevent\taddress
+0\t00000300\t-\tabort\t03\t00ffffffffffffc0
+abort 09 address 0x10180 read 0x8018+8 0x4000+64
+abort 03 address 0x1000018 read -
+abort 03 address 0x0 read -
+";
+    assert_eq!(output(script), expected);
 }
 
 // Lines.

@@ -2,6 +2,7 @@
 
 mod common;
 mod coverage;
+mod damage;
 mod laws;
 mod lines;
 mod readings;

@@ -2,12 +2,12 @@
 //! and that a refused call changes nothing.
 
 use crate::common::*;
-use oracle::answer::{Answer, Outcome, Piece};
+use oracle::answer::{Answer, Event, Outcome, Piece, EVENTS};
 use oracle::book::{ask, malformed, notice, open, Book, Held, Kept};
 use oracle::memory::Memory;
 use oracle::refusal::Refusal;
 use oracle::registers::*;
-use oracle::report::{report, LONGEST};
+use oracle::report::{report, LONGEST, SHORTEST};
 use oracle::script::Session;
 
 const END: u64 = 1 << 52;
@@ -335,10 +335,17 @@ fn refusal_7_a_held_number() {
         })
     };
     for number in (0..300).chain([u64::MAX]) {
+        // An event that isn't listed is no event: the words of such a book are refused (words.rs).
         let event = matches!(number, 2 | 3 | 4 | 6 | 8 | 9 | 10);
-        assert_eq!(holding(Outcome::Abort { event: number }), !event);
+        assert_eq!(Event::of(number, 0).is_some(), event);
         let unserved = matches!(number, 20..=22);
         assert_eq!(holding(Outcome::Unserved { number }), !unserved);
+    }
+    for event in EVENTS {
+        for wanted in [0, 1, END, u64::MAX] {
+            let event = Event::of(event, wanted).unwrap();
+            assert!(!holding(Outcome::Abort(event)));
+        }
     }
     assert!(!holding(Outcome::QuietAbort));
     assert!(!holding(Outcome::GlobalBypass));
@@ -369,7 +376,7 @@ fn the_longest_report_fits_its_bound() {
             stream: u64::from(u32::MAX),
             substream: Some(0xfffff - slot as u64),
             answer: Answer {
-                outcome: abort(0x02),
+                outcome: failed(0x09, u64::MAX),
                 list: vec![],
             },
         });
@@ -377,6 +384,7 @@ fn the_longest_report_fits_its_bound() {
     // Slots 0 to 9 take one digit less.
     let mut buffer = [0; LONGEST];
     assert_eq!(report(&book, &mut buffer), Ok(LONGEST - 10));
+    assert_eq!((SHORTEST, LONGEST), (44, 2_860));
 }
 
 // Orders.

@@ -81,7 +81,11 @@ fn stream_2_the_smaller_of_log2size_and_sidsize() {
     // All of 32 bits.
     let mut session = linear(0, 32);
     set(&mut session, Register::Idr1, SIDSIZE, 32);
-    assert_eq!(look(&session, u32::MAX, None), answer(abort(0x03), &[]));
+    let wanted = 64 * 0xffff_ffff;
+    assert_eq!(
+        look(&session, u32::MAX, None),
+        answer(failed(0x03, wanted), &[])
+    );
 }
 
 #[test]
@@ -204,7 +208,7 @@ fn a_fetch_lies_wholly_in_the_memory() {
         let mut session = linear(0, 0);
         session.bytes.truncate(length);
         let event = outcome(&session, 0, None);
-        assert_eq!(event == abort(0x03), !had, "{length}");
+        assert_eq!(event == failed(0x03, 0), !had, "{length}");
     }
     // Below the base, at it, at the end.
     for (addr, had) in [
@@ -216,42 +220,112 @@ fn a_fetch_lies_wholly_in_the_memory() {
         let mut session = linear(addr, 0);
         session.base = 0x1000;
         session.bytes.truncate(0x80);
-        assert_eq!(outcome(&session, 0, None) != abort(0x03), had, "{addr:#x}");
+        let expected = if had {
+            bypass(addr)
+        } else {
+            failed(0x03, addr)
+        };
+        assert_eq!(outcome(&session, 0, None), expected, "{addr:#x}");
+    }
+}
+
+/// Two levels of both tables in a memory of so many bytes from `base` on, where the fetch of substream 1 of stream 768 is tried for a
+/// descriptor of this kind at the address. The other descriptors are in place: the L1STD at 0x18 from the base, the STE at 0x40, the
+/// L1CD at 0x80, the CD at 0x1040.
+fn wanting(kind: Kind, address: u64, base: u64, length: u64) -> Session {
+    let at = |of: Kind, offset: u64| if of == kind { address } else { base + offset };
+    let mut session = stage_1(1);
+    session.base = base;
+    session.bytes = vec![0; length as usize];
+    session.registers.strtab_base = at(Kind::L1std, 0x18) - 0x18;
+    put(&mut session, base + 0x18, &[at(Kind::Ste, 0x40) | 1]);
+    let ste = 0x1b | at(Kind::L1cd, 0x80) | 8 << 59;
+    put(&mut session, base + 0x40, &[ste]);
+    put(
+        &mut session,
+        base + 0x80,
+        &[(at(Kind::Cd, 0x1040) - 0x40) | 1],
+    );
+    session
+}
+
+/// The four fetches, each with how its address ends, the event, and how many descriptors are read before.
+const FETCHES: [(Kind, u64, u64, usize); 4] = [
+    (Kind::L1std, 0x18, 0x03, 0),
+    (Kind::Ste, 0x40, 0x03, 1),
+    (Kind::L1cd, 0x80, 0x09, 2),
+    (Kind::Cd, 0x40, 0x09, 3),
+];
+
+#[test]
+fn every_kind_of_fetch_has_its_event_and_says_what_it_wanted() {
+    const TOP: u64 = 1 << 32;
+    // The memory, and about where the descriptor is wanted.
+    let ways = [
+        // Below the memory, by little and by much.
+        (0x1_0000, 0x2000, 0xf000),
+        (0x1_0000, 0x2000, 0),
+        // Past its end.
+        (0x1_0000, 0x2000, 0x1_2000),
+        (0x1_0000, 0x2000, TOP - 0x1000),
+        // In the memory, above the OAS.
+        (TOP - 0x2000, 0x4000, TOP),
+        (TOP - 0x2000, 0x4000, TOP + 0x1000),
+        // Where it would be in the memory without the bits above the OAS; and the highest.
+        (0x1_0000, 0x2000, TOP + 0x1_0000),
+        (0x1_0000, 0x2000, 1 << 52 | 0x1_0000),
+        (0x1_0000, 0x2000, 0xff_ffff_ffff_f000),
+    ];
+    for (kind, low, number, read) in FETCHES {
+        for (base, length, high) in ways {
+            let wanted = high + low;
+            let mut session = wanting(kind, wanted, base, length);
+            set(&mut session, Register::Idr5, OAS, 0);
+            let before = [(base + 0x18, 8), (base + 0x40, 64), (base + 0x80, 8)];
+            let expected = answer(failed(number, wanted), &before[..read]);
+            let found = look(&session, 768, Some(1));
+            assert_eq!(found, expected, "{kind:?} {wanted:#x}");
+        }
     }
 }
 
 #[test]
-fn every_kind_of_fetch_has_its_event() {
+fn a_fetch_across_the_end_says_where_it_starts() {
+    let base = 0x1_0000;
+    for (kind, low, number, read) in FETCHES {
+        let (start, length) = (base + 0x2000 + low, kind.length());
+        for inside in [1, 7, length - 1, length] {
+            let session = wanting(kind, start, base, start - base + inside);
+            let found = look(&session, 768, Some(1)).unwrap();
+            let is_it = found.outcome == failed(number, start) && found.list.len() == read;
+            assert_eq!(is_it, inside < length, "{kind:?} {inside}");
+            let had = found.list.contains(&list(&[(start, length)])[0]);
+            assert_eq!(had, inside == length, "{kind:?} {inside}");
+        }
+    }
+}
+
+#[test]
+fn a_fetch_without_a_level_1_says_what_it_wanted() {
+    let before = [(0x8018, 8), (STE, 64)];
     let too_far = 0x1_0000;
-    // L1STD.
-    let mut session = figure();
-    session.registers.strtab_base = too_far;
-    assert_eq!(look(&session, 0, None), answer(abort(0x03), &[]));
-    // STE.
-    let mut session = figure();
-    put(&mut session, 0x8018, &[too_far | 1]);
-    assert_eq!(
-        look(&session, 768, None),
-        answer(abort(0x03), &[(0x8018, 8)])
-    );
-    // L1CD.
-    let before = [(0x8018, 8), (STE, 64), (TABLE, 8)];
-    let mut session = stage_1(1);
-    put_field(&mut session, STE, ste::S1CONTEXTPTR, too_far >> 6);
-    assert_eq!(
-        look(&session, 768, Some(1)),
-        answer(abort(0x09), &before[..2])
-    );
-    // CD, by an L1CD and without one.
-    let mut session = stage_1(1);
-    put(&mut session, TABLE, &[too_far | 1]);
-    assert_eq!(look(&session, 768, Some(1)), answer(abort(0x09), &before));
+    // The second of a linear table of STEs.
+    let session = linear(too_far, 6);
+    let wanted = failed(0x03, too_far + 64);
+    assert_eq!(look(&session, 1, None), answer(wanted, &[]));
+    // The second of a table of CDs, and the one CD.
     let mut session = stage_1(0);
     put_field(&mut session, STE, ste::S1CONTEXTPTR, too_far >> 6);
-    assert_eq!(
-        look(&session, 768, Some(1)),
-        answer(abort(0x09), &before[..2])
-    );
+    let wanted = failed(0x09, too_far + 64);
+    assert_eq!(look(&session, 768, Some(1)), answer(wanted, &before));
+    put_field(&mut session, STE, ste::S1CDMAX, 0);
+    let wanted = failed(0x09, too_far);
+    assert_eq!(look(&session, 768, None), answer(wanted, &before));
+    // Past 56 bits: the sum is not cut off.
+    put_field(&mut session, STE, ste::S1CDMAX, 8);
+    put_field(&mut session, STE, ste::S1CONTEXTPTR, u64::MAX);
+    let wanted = failed(0x09, (1 << 56) + 64 * 254);
+    assert_eq!(look(&session, 768, Some(255)), answer(wanted, &before));
 }
 
 #[test]
@@ -263,10 +337,11 @@ fn a_fetch_ends_at_or_below_the_oas_and_pointer_bits_are_kept() {
         assert_eq!(outcome(&session, 0, None), bypass((1 << size) - 64));
         // The memory goes on above the OAS.
         session.registers.strtab_base = 1 << size;
-        assert_eq!(look(&session, 0, None), answer(abort(0x03), &[]));
+        let wanted = failed(0x03, 1 << size);
+        assert_eq!(look(&session, 0, None), answer(wanted, &[]));
         // Cut off, it would be address 0.
         session.base = 0;
-        assert_eq!(look(&session, 0, None), answer(abort(0x03), &[]));
+        assert_eq!(look(&session, 0, None), answer(wanted, &[]));
     }
     // 52 bits end where memory ends.
     let mut session = linear((1 << 52) - 64, 0);
@@ -274,7 +349,8 @@ fn a_fetch_ends_at_or_below_the_oas_and_pointer_bits_are_kept() {
     session.base = (1 << 52) - 0x1_0000;
     assert_eq!(outcome(&session, 0, None), bypass((1 << 52) - 64));
     session.registers.strtab_base = 0xff_ffff_ffff_ffc0;
-    assert_eq!(outcome(&session, 0, None), abort(0x03));
+    let wanted = failed(0x03, 0xff_ffff_ffff_ffc0);
+    assert_eq!(outcome(&session, 0, None), wanted);
 }
 
 #[test]
@@ -287,7 +363,7 @@ fn the_highest_address_wraps_nowhere() {
         request(u32::MAX, None),
     );
     let tried = tried.unwrap().trace.tries[0];
-    let addr = (0xff_ffff_ffff_ffff_u128 >> 38) << 38;
+    let addr = (0xff_ffff_ffff_ffff >> 38) << 38;
     assert_eq!(
         (tried.kind, tried.address),
         (Kind::Ste, addr + (0xffff_ffff << 6))
@@ -398,7 +474,8 @@ fn ste_8_with_a_substream() {
     // 2^20 - 1 is the last of all.
     set(&mut session, Register::Idr1, SSIDSIZE, 20);
     put_field(&mut session, STE, ste::S1CDMAX, 20);
-    assert_eq!(outcome(&session, 768, Some((1 << 20) - 1)), abort(0x09));
+    let wanted = failed(0x09, TABLE + 64 * ((1 << 20) - 1));
+    assert_eq!(outcome(&session, 768, Some((1 << 20) - 1)), wanted);
 }
 
 #[test]

@@ -102,7 +102,8 @@ fn others_the_last_ste_of_the_memory_and_one_past_it() {
     let found = answer(bypass(0xffc0), &[L1STD_3, (0xffc0, 64)]);
     assert_eq!(look(&session, 768, None), found);
     put(&mut session, 0x8018, &[0x1_0000 | 1]);
-    assert_eq!(look(&session, 768, None), answer(abort(0x03), &[L1STD_3]));
+    let wanted = failed(0x03, 0x1_0000);
+    assert_eq!(look(&session, 768, None), answer(wanted, &[L1STD_3]));
 }
 
 #[test]
@@ -125,9 +126,9 @@ fn the_report_after_asks_for_256_and_260() {
     for stream in [256, 260] {
         ask(&mut book, figure.memory(), request(stream, None)).unwrap();
     }
-    let text = b"slot\tstream\tsubstream\toutcome\tevent\n\
-                 0\t00000100\t-\tbypass\t-\n\
-                 1\t00000104\t-\tabort\t02\n";
+    let text = b"slot\tstream\tsubstream\toutcome\tevent\taddress\n\
+                 0\t00000100\t-\tbypass\t-\t-\n\
+                 1\t00000104\t-\tabort\t02\t-\n";
     let mut buffer = [0xee; 120];
     assert_eq!(report(&book, &mut buffer), Ok(text.len()));
     assert_eq!(&buffer[..text.len()], text);

@@ -1,5 +1,6 @@
 //! Damage to held answers, and noise in words that are not looked at.
 
+use crate::answer::*;
 use crate::book::MOST_SLOTS;
 use crate::book_words::*;
 use crate::damage::books::{held, one};
@@ -66,6 +67,63 @@ pub fn event_or_case(random: &mut Random, words: &mut Words) -> Option<()> {
         words[from + KIND] ^= 2;
     }
     Some(())
+}
+
+/// Any address where a failed fetch has the one that it wanted; where no such answer is held, one becomes it.
+pub fn any_address(random: &mut Random, words: &mut Words) -> Option<()> {
+    let from = an_abort_with(random, words, &FETCHES)?;
+    words[from + WANTED] = an_address(random);
+    Some(())
+}
+
+/// A number in the same word of an abort with another event, which doesn't use it.
+pub fn address_of_no_fetch(random: &mut Random, words: &mut Words) -> Option<()> {
+    let from = an_abort_with(random, words, &OTHERS)?;
+    words[from + WANTED] = an_address(random);
+    Some(())
+}
+
+/// The events that are of no failed fetch.
+const OTHERS: [u64; 5] = [
+    C_BAD_STREAMID,
+    C_BAD_STE,
+    F_STREAM_DISABLED,
+    C_BAD_SUBSTREAMID,
+    C_BAD_CD,
+];
+
+/// Where a held abort with one of these events starts; where there is none, a held answer is made one.
+fn an_abort_with(random: &mut Random, words: &mut Words, events: &[u64]) -> Option<usize> {
+    let mut slots = held(words);
+    slots.retain(|slot| {
+        let from = answer(*slot);
+        words[from + KIND] == 4 && events.contains(&words[from + EVENT])
+    });
+    if let Some(slot) = one(random, &slots) {
+        return Some(answer(slot));
+    }
+    let from = a_held_answer(random, words)?;
+    words[from + KIND] = 4;
+    words[from + EVENT] = random.pick(events);
+    Some(from)
+}
+
+/// An address of a table's size, at an edge, or of any 64 bits.
+fn an_address(random: &mut Random) -> u64 {
+    let any = random.word();
+    let narrow = random.below(64);
+    random.pick(&[
+        0,
+        1,
+        0x1_0000,
+        END - 64,
+        END,
+        1 << 57,
+        1 << 63,
+        u64::MAX,
+        any,
+        any >> narrow,
+    ])
 }
 
 /// The last value of a field, the first that is too wide, and wider ones.
@@ -151,6 +209,7 @@ pub fn not_looked_at(random: &mut Random, words: &mut Words) -> Option<()> {
         let used = match words[from + KIND] {
             _ if empty => 0,
             1 => 9,
+            4 if FETCHES.contains(&words[from + EVENT]) => 3,
             2 | 4 | 6 => 2,
             _ => 1,
         };
