@@ -14,9 +14,10 @@ use lib.Dec.{leb, ltb}
 use Rattle.placed.specs.From.{allFrom}
 use Rattle.memory_image.specs.Extent.{addressTop}
 use Rattle.answers.specs.Layout.{piecesMost}
+use Rattle.answers.specs.Outcome.{fetchEvent}
 use Rattle.answers.specs.Proper.{properFields, listedEvent, listedCase, properOutcome, endsBelowAt, properPieces}
 use Rattle.answers.specs.declared.Outcome.{Outcome}
-use Rattle.answers.specs.declared.Outcome.the-variants.{Translate, Bypass, BypassGlobal, Abort, Quiet, Unserved}
+use Rattle.answers.specs.declared.Outcome.the-variants.{Translate, Bypass, BypassGlobal, Abort, Fault, Quiet, Unserved}
 use Rattle.answers.specs.declared.Translation.{Translation}
 use Rattle.answers.specs.declared.Pieces.{Pieces}
 
@@ -51,11 +52,9 @@ case-is k listed n is = sym (ap listedCase is ∙ listed)
 
 module _ (event : ℕ) where
   pub event-other :
-      (event ≡ 2 → ⊥) → (event ≡ 3 → ⊥) → (event ≡ 4 → ⊥) → (event ≡ 6 → ⊥) → (event ≡ 8 → ⊥) → (event ≡ 9 → ⊥)
-      → (event ≡ 10 → ⊥) → false ≡ listedEvent event
+      (event ≡ 2 → ⊥) → (event ≡ 4 → ⊥) → (event ≡ 6 → ⊥) → (event ≡ 8 → ⊥) → (event ≡ 10 → ⊥) → false ≡ listedEvent event
   unfolding listedEvent
-  event-other a b c d e f g =
-      simp (ne-eqb _ _ a, ne-eqb _ _ b, ne-eqb _ _ c, ne-eqb _ _ d, ne-eqb _ _ e, ne-eqb _ _ f, ne-eqb _ _ g)
+  event-other a b c d e = simp (ne-eqb _ _ a, ne-eqb _ _ b, ne-eqb _ _ c, ne-eqb _ _ d, ne-eqb _ _ e)
 
 module _ (n : ℕ) where
   pub case-other : (n ≡ 20 → ⊥) → (n ≡ 21 → ⊥) → (n ≡ 22 → ⊥) → false ≡ listedCase n
@@ -78,6 +77,11 @@ module _ (outcome : Outcome) where
   pub abort-tested : {event : ℕ} {test : Bool} → outcome ≡ Abort event → test ≡ listedEvent event → test ≡ properOutcome outcome
   unfolding properOutcome
   abort-tested is tested = rw (is, tested)
+
+  pub fault-tested :
+      {event address : ℕ} {test : Bool} → outcome ≡ Fault event address → test ≡ fetchEvent event → test ≡ properOutcome outcome
+  unfolding properOutcome
+  fault-tested is tested = rw (is, tested)
 
   pub quiet-tested : outcome ≡ Quiet → true ≡ properOutcome outcome
   unfolding properOutcome

@@ -3,10 +3,11 @@
 --     outcomeOf, listOf    the outcome and the list that words stand for
 --     stands               whether words stand for an answer
 --     outcomePut           words with an outcome put before the list that they hold
+--     aborted, ownEvent    an abort by its event, and whether an outcome's event is one of its case
 -- Ours: all of it; a kind that is none reads as a quiet abort, and does not stand.
 -- Assumes: nothing.
 use Prim.Native.Nat.{ℕ, zero, suc, _+_}
-use mathlib.Core.Bool.{Bool, _&&_}
+use mathlib.Core.Bool.{Bool, true, not, _&&_}
 use mathlib.Core.List.{List, [], _∷_, _++_}
 use lib.Dec.{eqb, leb}
 use lib.ListN.{getD, set}
@@ -14,11 +15,12 @@ use Rattle.placed.specs.From.{from}
 use Rattle.bit_fields.specs.Choice.{if_then_else_}
 use Rattle.memory_image.specs.declared.Piece.{Piece}
 use Rattle.answers.specs.Layout.{valuesMost, piecesMost, kindAt, valuesAt, countAt, piecesAt}
+use Rattle.answers.specs.Outcome.{fetchEvent}
 use Rattle.answers.specs.Values.{kindOf, kindsMost, valuesOf}
 use Rattle.answers.specs.Pieces.{pieceWords}
 use Rattle.answers.specs.Proper.{properOutcome, properPieces}
 use Rattle.answers.specs.declared.Outcome.{Outcome}
-use Rattle.answers.specs.declared.Outcome.the-variants.{Translate, Bypass, BypassGlobal, Abort, Quiet, Unserved}
+use Rattle.answers.specs.declared.Outcome.the-variants.{Translate, Bypass, BypassGlobal, Abort, Fault, Quiet, Unserved}
 use Rattle.answers.specs.declared.Translation.{Translation}
 use Rattle.answers.specs.declared.Pieces.{Pieces}
 
@@ -46,13 +48,29 @@ translationIn words =
       ttb0 = valueIn words 7;
     }
 
+-- an abort by its event: one of a failed fetch has the address beside it
+unfoldable pub aborted : ℕ → ℕ → Outcome
+aborted event address =
+    if fetchEvent event then Fault event address
+    else Abort event
+
+-- a fault's event is a failed fetch's, and no other abort's is
+unfoldable pub ownEvent : Outcome → Bool
+ownEvent (Translate t) = true
+ownEvent (Bypass ste) = true
+ownEvent BypassGlobal = true
+ownEvent (Abort event) = not (fetchEvent event)
+ownEvent (Fault event address) = fetchEvent event
+ownEvent Quiet = true
+ownEvent (Unserved n) = true
+
 -- kind 5 and whatever is no kind are quiet
 unfoldable pub outcomeOf : List ℕ → Outcome
 outcomeOf words =
     if eqb (getD words kindAt 0) 1 then Translate (translationIn words)
     else if eqb (getD words kindAt 0) 2 then Bypass (valueIn words 0)
     else if eqb (getD words kindAt 0) 3 then BypassGlobal
-    else if eqb (getD words kindAt 0) 4 then Abort (valueIn words 0)
+    else if eqb (getD words kindAt 0) 4 then aborted (valueIn words 0) (valueIn words 1)
     else if eqb (getD words kindAt 0) 6 then Unserved (valueIn words 0)
     else Quiet
 

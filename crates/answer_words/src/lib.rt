@@ -39,7 +39,8 @@ pub fn outcome_of(words: &[u64; ANSWER_WORDS]) -> Outcome
         return Outcome::BypassGlobal;
     }
     if kind == ABORT {
-        return Outcome::Abort(value);
+        let address = words[VALUES_AT + 1];
+        return outcome::aborted(value, address);
     }
     if kind == UNSERVED {
         return Outcome::Unserved(value);

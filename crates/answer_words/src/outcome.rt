@@ -5,7 +5,7 @@ ghost use mathlib.Core.List.{[], _∷_};
 ghost use Rattle.answers.specs.declared.Outcome.the-variants.{Translate};
 ghost use Rattle.answers.specs.Layout.{kindAt};
 ghost use Rattle.answers.specs.Values.{valuesOf};
-ghost use Rattle.answer_words.specs.AnswerWords.{outcomePut, putFrom, translationIn};
+ghost use Rattle.answer_words.specs.AnswerWords.{aborted, outcomePut, putFrom, translationIn};
 use answers::ANSWER_WORDS;
 use answers::KIND_AT;
 use answers::Outcome;
@@ -49,6 +49,16 @@ pub fn translation_in(words: &[u64; ANSWER_WORDS]) -> Translation
     }
 }
 
+// An abort by its event: one of a failed fetch has the address that was wanted.
+pub fn aborted(event: u64, address: u64) -> Outcome
+    ensures { λ r. ⌜ r ≡ aborted event address ⌝ }
+{
+    if answers::is_fetch(event) {
+        return Outcome::Fault(event, address);
+    }
+    Outcome::Abort(event)
+}
+
 // A kind without a value.
 fn put_kind(words: &mut [u64; ANSWER_WORDS], kind: u64)
     ensures { λ _. ⌜ now (words .exit) ≡ putFrom (now (words .entry)) (kind ∷ []) kindAt ⌝ }
@@ -62,6 +72,15 @@ fn put_value(words: &mut [u64; ANSWER_WORDS], kind: u64, value: u64)
 {
     words[KIND_AT] = kind;
     words[VALUES_AT] = value;
+}
+
+// A fault: an abort's kind, the event, and the address that was wanted.
+fn put_fault(words: &mut [u64; ANSWER_WORDS], event: u64, address: u64)
+    ensures { λ _. ⌜ now (words .exit) ≡ putFrom (now (words .entry)) (4 ∷ (event ∷ (address ∷ []))) kindAt ⌝ }
+{
+    words[KIND_AT] = ABORT;
+    words[VALUES_AT + 0] = event;
+    words[VALUES_AT + 1] = address;
 }
 
 // A translation's kind and its values.
@@ -88,6 +107,7 @@ pub fn put_outcome(words: &mut [u64; ANSWER_WORDS], outcome: Outcome)
         Outcome::Bypass(ste) => put_value(words, BYPASS, ste),
         Outcome::BypassGlobal => put_kind(words, BYPASS_GLOBAL),
         Outcome::Abort(event) => put_value(words, ABORT, event),
+        Outcome::Fault(event, address) => put_fault(words, event, address),
         Outcome::Quiet => put_kind(words, QUIET),
         Outcome::Unserved(case) => put_value(words, UNSERVED, case),
     }

@@ -23,17 +23,15 @@ fn has_widths(t: Translation) -> bool
     t.epd0 < 1 << 1
 }
 
-// One of the rules' event numbers.
+// One of the rules' event numbers, of those without an address.
 fn is_event(event: u64) -> bool
     ensures { λ r. ⌜ r ≡ listedEvent event ⌝ }
 {
     match event {
         answers::C_BAD_STREAMID => true,
-        answers::F_STE_FETCH => true,
         answers::C_BAD_STE => true,
         answers::F_STREAM_DISABLED => true,
         answers::C_BAD_SUBSTREAMID => true,
-        answers::F_CD_FETCH => true,
         answers::C_BAD_CD => true,
         _ => false,
     }
@@ -59,6 +57,7 @@ pub fn is_outcome(outcome: Outcome) -> bool
         Outcome::Bypass(_) => true,
         Outcome::BypassGlobal => true,
         Outcome::Abort(event) => is_event(event),
+        Outcome::Fault(event, _) => answers::is_fetch(event),
         Outcome::Quiet => true,
         Outcome::Unserved(n) => is_case(n),
     }

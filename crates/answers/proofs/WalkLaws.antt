@@ -1,7 +1,8 @@
 -- A rule run with its list in an answer's words, for every rule.
 --     walk-done               a rule that is done leaves the words
---     walk-fault, walk-read   a fetch by what `memory_image::fetch` answered: it failed; it was had, and the list has one piece more
---     fault-one, read-one     the same for a descriptor whose first word ends the rule; read-all: for one of eight words
+--     walk-fault, walk-read   a fetch by what `memory_image::fetch` answered: it failed, and that ends the rule by the address that was
+--                             wanted; it was had, and the list has one piece more
+--     read-one, read-all      the same for a descriptor whose first word ends the rule; for one of eight words
 --     walk-then               one rule and then another
 --     walk-run                from no list on, the words have the list that `run` gives
 -- Assumes: nothing.
@@ -12,13 +13,13 @@ use mathlib.Core.Path.{_≡_, refl, sym, ap, _∙_}
 use mathlib.Core.Bool.{Bool, true, false}
 use mathlib.Core.List.{List, [], _∷_, _++_, append-assoc, append-nil}
 use lib.ListN.{length, replicate, length-append}
-use Rattle.memory_image.specs.Extent.{Extent, extentOf, endOf, fetched, fetchRule}
+use Rattle.memory_image.specs.Extent.{Extent, extentOf, endOf, fetched, fetchRule, wanted}
 use Rattle.memory_image.specs.Words.{bytes, wordOf}
 use Rattle.memory_image.specs.Rule.{Rule, done, fetch, Ran, descriptor, wordsAt, run, andThen}
 use Rattle.memory_image.specs.declared.Piece.{Piece}
 use Rattle.memory_image.specs.declared.Fetched.{Fetched}
 use Rattle.memory_image.specs.declared.Fetched.the-variants.{At, Outside}
-use Rattle.memory_image.proofs.ExtentLaws.{outside}
+use Rattle.memory_image.proofs.ExtentLaws.{outside, wanted-is}
 use Rattle.memory_image.proofs.DescriptorLaws.{had-at, read-word, read-words}
 use Rattle.memory_image.proofs.Claims.{fault-not-listed, fetched-is-listed}
 use Rattle.memory_image.proofs.RunLaws.{run-done}
@@ -130,13 +131,17 @@ module _ (base : ℕ) (memory : List ℕ) {A : Type 0} where
 
   module _ (address n : ℕ) {said : Fetched}
       (is : said ≡ fetchRule (extentOf base memory) (endOf (extentOf base memory)) address (8 * n)) (ws : List ℕ) where
-    module _ (fault : Rule A) (rest : (ℕ → ℕ) → Rule A) {r : A} {after : List ℕ} where
-      pub walk-fault : said ≡ Outside → Walks base memory fault ws r after → Walks base memory (fetch address n fault rest) ws r after
-      walk-fault out walk =
-          goes-on
-          (in-fault (extentOf base memory) (endOf (extentOf base memory)) (bytes memory) address n fault rest ws
-          (outside (extentOf base memory) (endOf (extentOf base memory)) address (8 * n) is out)) walk
+    -- what fails ends the rule, by the address that was wanted
+    pub walk-fault :
+        (fault : ℕ → A) (rest : (ℕ → ℕ) → Rule A) {a got : ℕ} → said ≡ Outside a → got ≡ wanted said
+        → Walks base memory (fetch address n (done (fault address)) rest) ws (fault got) ws
+    walk-fault fault rest out told =
+        goes-on
+        (in-fault (extentOf base memory) (endOf (extentOf base memory)) (bytes memory) address n (done (fault address)) rest ws
+        (outside (extentOf base memory) (endOf (extentOf base memory)) address (8 * n) is out))
+        (walk-done (ap fault (wanted-is (extentOf base memory) (endOf (extentOf base memory)) address (8 * n) is out told)) ws)
 
+    module _ (fault : Rule A) (rest : (ℕ → ℕ) → Rule A) {r : A} {after : List ℕ} where
       pub walk-read :
           {place : ℕ} → said ≡ At place → {longer : List ℕ} → longer ≡ pushPiece ws (record { address = address; length = 8 * n })
           → Walks base memory (rest (wordsAt (bytes memory) (address - base) n)) longer r after
@@ -148,9 +153,6 @@ module _ (base : ℕ) (memory : List ℕ) {A : Type 0} where
 
     -- a descriptor of one word, which ends the rule
     module _ (fault : A) (next : ℕ → A) where
-      pub fault-one : said ≡ Outside → Walks base memory (fetch address n (done fault) (λ w. done (next (w 0)))) ws fault ws
-      fault-one out = walk-fault (done fault) (λ w. done (next (w 0))) out (walk-done refl ws)
-
       pub read-one :
           0 < n → {place word : ℕ} → said ≡ At place → word ≡ wordOf memory place 0
           → {longer : List ℕ} → longer ≡ pushPiece ws (record { address = address; length = 8 * n }) → {r : A} → r ≡ next word

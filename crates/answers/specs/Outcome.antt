@@ -1,11 +1,12 @@
 -- The rules' numbers for what a lookup answers (RULES, "What an answer holds").
 --     cBadStreamId .. cBadCd               the events, by the standard's names
+--     fetchEvent                           the two of a fetch that fails, which come with the address that was wanted
 --     stage2, vmsa32, streamWorld          the unserved cases
 --     recorded                             whether an abort's event is recorded
 -- An outcome holds these numbers themselves, so that a rule that says `Abort cBadSte` says 0x04.
 -- Assumes: nothing.
 use Prim.Native.Nat.{ℕ}
-use mathlib.Core.Bool.{Bool, not, _&&_}
+use mathlib.Core.Bool.{Bool, not, _&&_, _||_}
 use lib.Dec.{eqb}
 use Rattle.registers.specs.Fields.{recInvSid}
 use Rattle.registers.specs.declared.Registers.{Registers}
@@ -30,6 +31,10 @@ fCdFetch = 0x09
 
 abbrev pub cBadCd : ℕ
 cBadCd = 0x0A
+
+-- an abort with one of these is a `Fault`, and no other is
+unfoldable pub fetchEvent : ℕ → Bool
+fetchEvent event = eqb event fSteFetch || eqb event fCdFetch
 
 -- Config 11x: stage 2
 abbrev pub stage2 : ℕ

@@ -1,5 +1,6 @@
 -- What every answer of a lookup has (RULES, "What an answer holds", "When the bench says no", row 7).
---     properOutcome      the fields of a translation have their widths, and an event or unserved number is one of those listed
+--     properOutcome      the fields of a translation have their widths, and an event or unserved number is one of those listed; any
+--                        address may stand with the event of a failed fetch
 --     properPieces       at most four pieces, and none that is counted ends past 2^52
 --     ProperAnswer       an outcome and a list that are proper, in an array of four: what a book may keep
 -- Assumes: nothing.
@@ -12,12 +13,12 @@ use lib.ListN.{length, getD}
 use Rattle.placed.specs.From.{allFrom}
 use Rattle.memory_image.specs.Extent.{addressTop}
 use Rattle.memory_image.specs.declared.Piece.{Piece}
-use Rattle.answers.specs.Outcome.{cBadStreamId, fSteFetch, cBadSte, fStreamDisabled, cBadSubstreamId, fCdFetch, cBadCd, stage2, vmsa32, streamWorld}
+use Rattle.answers.specs.Outcome.{cBadStreamId, cBadSte, fStreamDisabled, cBadSubstreamId, cBadCd, fetchEvent, stage2, vmsa32, streamWorld}
 use Rattle.answers.specs.Layout.{piecesMost}
 use Rattle.answers.specs.Pieces.{nothing}
 use Rattle.answers.specs.Values.{valuesOf, widthsOf, valuesFit}
 use Rattle.answers.specs.declared.Outcome.{Outcome}
-use Rattle.answers.specs.declared.Outcome.the-variants.{Translate, Bypass, BypassGlobal, Abort, Quiet, Unserved}
+use Rattle.answers.specs.declared.Outcome.the-variants.{Translate, Bypass, BypassGlobal, Abort, Fault, Quiet, Unserved}
 use Rattle.answers.specs.declared.Translation.{Translation}
 use Rattle.answers.specs.declared.Pieces.{Pieces}
 
@@ -25,13 +26,11 @@ use Rattle.answers.specs.declared.Pieces.{Pieces}
 unfoldable pub properFields : Translation → Bool
 properFields t = valuesFit (valuesOf (Translate t)) (widthsOf (Translate t))
 
--- C_BAD_STREAMID 0x02, F_STE_FETCH 0x03, C_BAD_STE 0x04, F_STREAM_DISABLED 0x06, C_BAD_SUBSTREAMID 0x08, F_CD_FETCH 0x09, C_BAD_CD 0x0A
+-- the events without an address: C_BAD_STREAMID 0x02, C_BAD_STE 0x04, F_STREAM_DISABLED 0x06, C_BAD_SUBSTREAMID 0x08, C_BAD_CD 0x0A
 unfoldable pub listedEvent : ℕ → Bool
 listedEvent event =
     eqb event cBadStreamId
-    || (eqb event fSteFetch
-    || (eqb event cBadSte
-    || (eqb event fStreamDisabled || (eqb event cBadSubstreamId || (eqb event fCdFetch || eqb event cBadCd)))))
+    || (eqb event cBadSte || (eqb event fStreamDisabled || (eqb event cBadSubstreamId || eqb event cBadCd)))
 
 -- unserved 20, 21 or 22
 unfoldable pub listedCase : ℕ → Bool
@@ -42,6 +41,7 @@ properOutcome (Translate t) = properFields t
 properOutcome (Bypass ste) = true
 properOutcome BypassGlobal = true
 properOutcome (Abort event) = listedEvent event
+properOutcome (Fault event address) = fetchEvent event
 properOutcome Quiet = true
 properOutcome (Unserved n) = listedCase n
 

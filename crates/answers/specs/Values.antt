@@ -1,5 +1,5 @@
 -- What an outcome holds, as numbers: its kind, and its values with their widths, in the order of an answer's words.
---     kindOf               1 translate, 2 bypass, 3 global bypass, 4 abort, 5 quiet, 6 unserved
+--     kindOf               1 translate, 2 bypass, 3 global bypass, 4 abort (a fault is one), 5 quiet, 6 unserved
 --     valuesOf, widthsOf   the values, and how many bits each may have: a line each
 --     valuesFit            each value has its width
 -- Ours: the kinds and the order. A width of 64 is a whole word's, of which nothing is asked.
@@ -10,13 +10,14 @@ use mathlib.Core.List.{List, [], _∷_}
 use lib.Dec.{leb}
 use Rattle.bit_fields.specs.Bits.{inBits}
 use Rattle.answers.specs.declared.Outcome.{Outcome}
-use Rattle.answers.specs.declared.Outcome.the-variants.{Translate, Bypass, BypassGlobal, Abort, Quiet, Unserved}
+use Rattle.answers.specs.declared.Outcome.the-variants.{Translate, Bypass, BypassGlobal, Abort, Fault, Quiet, Unserved}
 
 abbrev pub kindOf : Outcome → ℕ
 kindOf (Translate t) = 1
 kindOf (Bypass ste) = 2
 kindOf BypassGlobal = 3
 kindOf (Abort event) = 4
+kindOf (Fault event address) = 4
 kindOf Quiet = 5
 kindOf (Unserved n) = 6
 
@@ -30,6 +31,7 @@ valuesOf (Translate t) =
 valuesOf (Bypass ste) = ste ∷ []
 valuesOf BypassGlobal = []
 valuesOf (Abort event) = event ∷ []
+valuesOf (Fault event address) = event ∷ (address ∷ [])
 valuesOf Quiet = []
 valuesOf (Unserved n) = n ∷ []
 
@@ -39,6 +41,7 @@ widthsOf (Translate t) = 64 ∷ (64 ∷ (16 ∷ (6 ∷ (2 ∷ (1 ∷ (64 ∷ (64
 widthsOf (Bypass ste) = 64 ∷ []
 widthsOf BypassGlobal = []
 widthsOf (Abort event) = 64 ∷ []
+widthsOf (Fault event address) = 64 ∷ (64 ∷ [])
 widthsOf Quiet = []
 widthsOf (Unserved n) = 64 ∷ []
 

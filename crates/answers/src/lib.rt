@@ -2,7 +2,7 @@
 // Meets specs/Outcome.antt, which has the rules' numbers, and specs/Pieces.antt; where the words of an answer stand is
 // in specs/Layout.antt too.
 ghost use mathlib.Core.Path.{_≡_};
-ghost use Rattle.answers.specs.Outcome.{recorded};
+ghost use Rattle.answers.specs.Outcome.{fetchEvent, recorded};
 ghost use Rattle.answers.specs.Pieces.{none, pushPiece};
 use memory_image::Piece;
 use registers::Registers;
@@ -48,8 +48,10 @@ pub enum Outcome {
     Bypass(u64),
     // Of every stream, while the SMMU is off.
     BypassGlobal,
-    // With this event.
+    // With this event, which is not a failed fetch's.
     Abort(u64),
+    // With the event of a failed fetch, and the address that it wanted.
+    Fault(u64, u64),
     Quiet,
     // The named case that is not served.
     Unserved(u64),
@@ -63,6 +65,16 @@ pub fn is_recorded(registers: Registers, event: u64) -> bool
         return registers.rec_inv_sid() != 0;
     }
     true
+}
+
+// Whether an event is that of a fetch that fails: it comes with the address that was wanted, and no other does.
+pub fn is_fetch(event: u64) -> bool
+    ensures { λ r. ⌜ r ≡ fetchEvent event ⌝ }
+{
+    if event == F_STE_FETCH {
+        return true;
+    }
+    event == F_CD_FETCH
 }
 
 // As many values as the longest outcome has.

@@ -31,7 +31,7 @@ use Rattle.answers.specs.Pieces.{none}
 use Rattle.answers.specs.declared.Outcome.{Outcome}
 use Rattle.answers.specs.declared.Pieces.{Pieces}
 use Rattle.answer_words.specs.AnswerWords.{wordsOf, outcomeOf, listOf}
-use Rattle.answer_words.proofs.AnswerWordsLaws.{outcome-back, list-back}
+use Rattle.answer_words.proofs.AnswerWordsLaws.{outcome-back, outcome-again, proper-own, list-back}
 use Rattle.answer_words.proofs.ListLaws.{list-length, zeros-none}
 use Rattle.lookup.specs.Lookup.{lookedUp, answerSays, answerPut, LooksUp}
 use Rattle.lookup.specs.declared.Looked.{Looked}
@@ -220,12 +220,16 @@ module _ (number : ℕ) (outcome : Outcome) (list : Pieces) where
       unfolding askedOf
       of-refused other = simp (ne-eqb _ _ not-before, ne-eqb _ _ not-newly, ne-eqb _ _ other)
 
--- a reply with an answer has a whole array; a refusal has a number below those of the answers, and no list
+-- an answer is read back from its words, and its list has a whole array
+abbrev Tells : Outcome → Pieces → Type 0
+Tells outcome l = (outcomeOf (wordsOf outcome l) ≡ outcome) × (length (l .piece) ≡ piecesMost)
+
+-- a reply with an answer tells it; a refusal has a number below those of the answers, and no list
 FitsBoth : Reply → Pieces → Type 0
 FitsBoth (reply.Refused n) l = (n < keptBefore) × (l ≡ none)
-FitsBoth (reply.KeptBefore outcome) l = length (l .piece) ≡ piecesMost
-FitsBoth (reply.NewlyKept outcome) l = length (l .piece) ≡ piecesMost
-FitsBoth (reply.NotKept outcome) l = length (l .piece) ≡ piecesMost
+FitsBoth (reply.KeptBefore outcome) l = Tells outcome l
+FitsBoth (reply.NewlyKept outcome) l = Tells outcome l
+FitsBoth (reply.NotKept outcome) l = Tells outcome l
 
 abbrev Fits : Asked → Type 0
 Fits asked = FitsBoth (asked .reply) (asked .list)
@@ -233,8 +237,8 @@ Fits asked = FitsBoth (asked .reply) (asked .list)
 newly-fits : (room : Bool) (a : Answer) (l : Pieces) → Shaped a l → Fits (newly room a l)
 unfolding FitsBoth
 newly-fits room (Refused n) l shape = (omega (arith, shape .1 .0), refl)
-newly-fits true (Is outcome) l shape = shape
-newly-fits false (Is outcome) l shape = shape
+newly-fits true (Is outcome) l shape = (outcome-back outcome l (proper-own outcome (shape .0)), shape .1)
+newly-fits false (Is outcome) l shape = (outcome-back outcome l (proper-own outcome (shape .0)), shape .1)
 
 module _ (ws : List ℕ) (base : ℕ) (memory : List ℕ) (request : Request) where
   asked-fits : Fits (asked ws base memory request)
@@ -243,7 +247,8 @@ module _ (ws : List ℕ) (base : ℕ) (memory : List ℕ) (request : Request) wh
       either Fits (refusal7 ws) (omega arith, refl)
       (either Fits (otherExtent ws base (length memory)) (omega arith, refl)
       (either Fits (refusal3 request) (omega arith, refl)
-      (either Fits (ltb (slotOf ws request) (slotsOf ws)) (list-length (blockAt ws (slotOf ws request)))
+      (either Fits (ltb (slotOf ws request) (slotsOf ws))
+      (outcome-again (blockAt ws (slotOf ws request)) (listOf (blockAt ws (slotOf ws request))), list-length (blockAt ws (slotOf ws request)))
       (newly-fits (ltb (emptySlot ws) (slotsOf ws)) (newLookup ws base memory request .answer) (newLookup ws base memory request .list)
       (shaped (registersOf ws) base memory request)))))
 
@@ -265,9 +270,9 @@ module _ (ws : List ℕ) (base : ℕ) (memory : List ℕ) (request : Request) wh
       }
     where
       back :
-          (rep : Reply) (l : Pieces) (o : Outcome) → after ≡ wordsOf o l → length (l .piece) ≡ piecesMost → askedOf number o l ≡ record { reply = rep; list = l }
+          (rep : Reply) (l : Pieces) (o : Outcome) → after ≡ wordsOf o l → Tells o l → askedOf number o l ≡ record { reply = rep; list = l }
           → askedOf number outcome list ≡ record { reply = rep; list = l }
-      back rep l o words whole same = rw (is-outcome, is-list, words, outcome-back o l, list-back o l whole) same
+      back rep l o words tells same = rw (is-outcome, is-list, words, tells .0, list-back o l (tells .1)) same
 
       go :
           (rep : Reply) (l : Pieces) → record { reply = rep; list = l } ≡ asked ws base memory request → FitsBoth rep l

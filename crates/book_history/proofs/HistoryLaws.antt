@@ -35,7 +35,7 @@ use Rattle.answers.specs.Proper.{ProperAnswer}
 use Rattle.answers.specs.declared.Outcome.{Outcome}
 use Rattle.answers.specs.declared.Pieces.{Pieces}
 use Rattle.answer_words.specs.AnswerWords.{wordsOf, outcomeOf, listOf}
-use Rattle.answer_words.proofs.AnswerWordsLaws.{words-length, stands-count}
+use Rattle.answer_words.proofs.AnswerWordsLaws.{words-length, stands-count, proper-own}
 use Rattle.lookup.specs.Lookup.{lookedUp, answered, ruled}
 use Rattle.lookup.specs.declared.Looked.{Looked}
 use Rattle.lookup.specs.declared.Answer.the-variants as looked
@@ -178,7 +178,7 @@ module _ (s : State) (h : Sound s) (request : Request) (j : ℕ) (room : j < slo
   kept-said =
       let proper = answers-proper (s .registers) (s .extent .base) (today s) request outcome l told in
       let back = kept-is-read-back outcome l in
-      rw (back .same-outcome, back .same-list (proper .array-full))
+      rw (back .same-outcome (proper-own outcome (proper .outcome-proper)), back .same-list (proper .array-full))
 
   pub kept-sound : Sound (holding s (keptAt (s .words) j (keyOf request) (wordsOf outcome l)))
   kept-sound =

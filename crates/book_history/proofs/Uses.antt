@@ -2,7 +2,7 @@
 -- Assumes: nothing.
 use Prim.Native.Nat.{ℕ, zero, suc, _+_, _≤_, _<_, _-_}
 use native.Mathlib.Omega.{arith}
-use mathlib.Core.Path.{_≡_, refl, ap, _∙_}
+use mathlib.Core.Path.{_≡_, refl, sym, ap, _∙_}
 use mathlib.Core.Bool.{Bool, true, false}
 use mathlib.Core.Logic.{_⊎_, inl, inr}
 use lib.Dec.{ltb}
@@ -13,6 +13,9 @@ use Rattle.ids.proofs.Claims.{equal-words-only, one-word-each, none-is-not-zero
 use Rattle.memory_image.specs.declared.Piece.{Piece}
 use Rattle.answers.specs.Pieces.{nothing}
 use Rattle.lookup.specs.Lookup.{lookedUp, answered, ruled}
+use Rattle.lookup.specs.declared.Looked.{Looked}
+use Rattle.lookup.specs.declared.Answer.the-variants as looked
+use Rattle.lookup_claims.proofs.Claims.{depends-on-list}
 use Rattle.book_words.specs.Layout.{bookWords, slotsOf, keyAt, keyOf, openedWith}
 use Rattle.book_words.proofs.KeepsLaws.{opened-length}
 use Rattle.book_words.proofs.WellLaws.{well-to}
@@ -26,6 +29,7 @@ use Rattle.book_history.specs.History.{State, Begun}
 use Rattle.book_history.specs.Demand3.{answerIn, lookedIn, KeptIn, Empty, NewIn}
 use Rattle.book_history.specs.Uses.{
   AskedByTheRules,
+  AddressCompared,
   NoticeOutside,
   EmptyNoticeStrikesNothing,
   NothingHeldAtFirst,
@@ -40,7 +44,7 @@ use Rattle.book_history.specs.Uses.{
 use Rattle.book_history.proofs.Demand2.{answer-of-the-rules, each-lies}
 use Rattle.book_history.proofs.AskedLaws.{passed, kept-from-its-slot, new-in-lowest}
 use Rattle.book_history.proofs.Demand3.{never-stale, strikes-exactly}
-use Rattle.book_history.proofs.Claims.{shares-means, starts-empty, never-malformed, only-refused-for-room}
+use Rattle.book_history.proofs.Claims.{still-good, shares-means, starts-empty, never-malformed, only-refused-for-room}
 
 pub asked-by-the-rules : AskedByTheRules
 asked-by-the-rules s began base memory request narrow clean asked after promise accepted = go (asked .reply) refl
@@ -53,6 +57,18 @@ asked-by-the-rules s began base memory request narrow clean asked after promise 
     go (reply.KeptBefore outcome) so = answer-of-the-rules (s .registers) base memory request (lookedIn asked) is outcome (ap answerIn so)
     go (reply.NewlyKept outcome) so = answer-of-the-rules (s .registers) base memory request (lookedIn asked) is outcome (ap answerIn so)
     go (reply.NotKept outcome) so = answer-of-the-rules (s .registers) base memory request (lookedIn asked) is outcome (ap answerIn so)
+
+-- whole answers are compared, and the address is part of one
+pub address-compared : (event address : ℕ) → AddressCompared event address
+address-compared event address =
+    record {
+      by-the-list = λ r base memory other request same agree said.
+          ap (λ (l : Looked). l .answer) (depends-on-list r base memory other request same agree) ∙ said;
+      asked-of = λ s began base memory request narrow clean asked after promise accepted said.
+          ap (λ (l : Looked). l .answer) (sym (never-stale s began base memory request narrow clean asked after promise accepted)) ∙ said;
+      held = λ s began i small full clean request is said.
+          ap (λ (l : Looked). l .answer) (still-good s began i small full clean request is) ∙ ap looked.Is said;
+    }
 
 -- a test that cannot hold doesn't
 never : (b : Bool) → (b ≡ true → ⊥) → b ≡ false

@@ -1,6 +1,7 @@
 -- What follows from the claims. Each needs all of the claims that it names, at their edges, and fails if one is weakened.
 -- proofs/Uses.antt proves each from those claims, by their names.
 --     AskedByTheRules               NeverStale, AnswerOfTheRules: while nothing lacks its notice an accepted ask gives the rules' answer and list
+--     AddressCompared               DependsOnList, NeverStale, StillGood: what they compare has the address that a failed fetch wanted
 --     NoticeOutside                 EachLies, SharesMeans: a notice below or above the memory shares no address with any listed descriptor
 --     EmptyNoticeStrikesNothing     StrikesExactly: a notice of length 0 leaves every word
 --     NothingHeldAtFirst            StartsEmpty, StrikesExactly: a notice to a book just opened leaves every word
@@ -25,12 +26,16 @@ use Rattle.ids.specs.declared.Request.{Request}
 use Rattle.ids.specs.declared.Substream.the-variants.{Without, With}
 use Rattle.ids.specs.declared.Unpacked.the-variants.{Is}
 use Rattle.registers.specs.declared.Registers.{Registers}
-use Rattle.memory_image.specs.Extent.{Extent, addressTop}
+use Rattle.memory_image.specs.Extent.{Extent, extentOf, addressTop}
+use Rattle.memory_image.specs.Rule.{Agree}
+use Rattle.memory_image.specs.Words.{bytes}
 use Rattle.memory_image.specs.declared.Piece.{Piece}
 use Rattle.answers.specs.Pieces.{EachPiece}
+use Rattle.answers.specs.declared.Outcome.the-variants.{Fault}
 use Rattle.answer_words.specs.AnswerWords.{outcomeOf, listOf}
 use Rattle.lookup.specs.Lookup.{lookedUp, answered, ruled}
-use Rattle.book_words.specs.Layout.{slotsOf, keyAt, keyOf, blockAt, otherExtent}
+use Rattle.lookup.specs.declared.Answer.the-variants as looked
+use Rattle.book_words.specs.Layout.{slotsMost, slotsOf, keyAt, keyOf, blockAt, otherExtent}
 use Rattle.book.specs.Book.{Opened, Asks, Noticed, refusedWith, shares}
 use Rattle.book.specs.declared.Asked.{Asked}
 use Rattle.book.specs.declared.Reply.the-variants.{KeptBefore}
@@ -40,8 +45,9 @@ use Rattle.report.specs.Length.{reportMost}
 use Rattle.report.specs.Report.{Reported, reportText}
 use Rattle.report.specs.declared.Written.{Written}
 use Rattle.report.specs.declared.Written.the-variants.{Length}
-use Rattle.book_history.specs.History.{State, handing, Begun}
-use Rattle.book_history.specs.Demand3.{Accepted, lookedIn, KeptIn}
+use Rattle.book_history.specs.History.{State, handing, today, Begun}
+use Rattle.book_history.specs.Claims.{Clean}
+use Rattle.book_history.specs.Demand3.{Accepted, answerIn, lookedIn, KeptIn}
 
 abbrev pub AskedByTheRules : Type 0
 AskedByTheRules =
@@ -49,6 +55,28 @@ AskedByTheRules =
     → ((a : ℕ) → handing s base memory .unnoticed a ≡ false)
     → (asked : Asked) (after : List ℕ) → Asks (s .words) base memory request asked after → Accepted (asked .reply)
     → lookedIn asked ≡ answered (ruled (s .registers) base memory request)
+
+-- of any event and any address; of the answers alone, the lists being theirs
+pub record AddressCompared (event address : ℕ) : Type 0 where
+  -- two memories that agree on the list
+  pub by-the-list :
+      (r : Registers) (base : ℕ) (memory other : List ℕ) (request : Request) → length other ≡ length memory
+      → EachPiece (Agree (extentOf base memory) (bytes memory) (bytes other)) (lookedUp r base memory request .list)
+      → lookedUp r base memory request .answer ≡ looked.Is (Fault event address)
+      → lookedUp r base other request .answer ≡ looked.Is (Fault event address)
+  -- an ask while nothing lacks its notice: what it says, and what a new lookup says
+  pub asked-of :
+      (s : State) → Begun s → (base : ℕ) (memory : List ℕ) (request : Request) → request .stream .number < 2 ^ 32
+      → ((a : ℕ) → handing s base memory .unnoticed a ≡ false)
+      → (asked : Asked) (after : List ℕ) → Asks (s .words) base memory request asked after → Accepted (asked .reply)
+      → answerIn (asked .reply) ≡ looked.Is (Fault event address)
+      → lookedUp (s .registers) base memory request .answer ≡ looked.Is (Fault event address)
+  -- a slot whose list shares no address with what lacks its notice: what it holds, and what a new lookup says
+  pub held :
+      (s : State) → Begun s → (i : ℕ) → i < slotsMost → (keyAt (s .words) i ≡ 0 → ⊥)
+      → Clean (s .unnoticed) (listOf (blockAt (s .words) i)) → (request : Request) → unpacked (keyAt (s .words) i - 1) ≡ Is request
+      → outcomeOf (blockAt (s .words) i) ≡ Fault event address
+      → lookedUp (s .registers) (s .extent .base) (today s) request .answer ≡ looked.Is (Fault event address)
 
 abbrev pub NoticeOutside : Type 0
 NoticeOutside =

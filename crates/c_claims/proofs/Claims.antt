@@ -9,8 +9,8 @@ use lib.ListN.{length}
 use Rattle.ids.specs.declared.Request.{Request}
 use Rattle.registers.specs.declared.Registers.{Registers}
 use Rattle.memory_image.specs.Extent.{Extent}
-use Rattle.memory_image.specs.declared.Fetched.{Fetched}
-use Rattle.memory_image.specs.declared.Fetched.the-variants.{At, Outside}
+use Rattle.lookup.specs.declared.part.Reached.{Reached}
+use Rattle.lookup.specs.declared.part.Reached.the-variants.{At, Nowhere}
 use Rattle.lookup.specs.Lookup.{lookedUp, answerSays}
 use Rattle.lookup.specs.Part.{steAt}
 use Rattle.lookup.specs.declared.Answer.{Answer}
@@ -150,11 +150,11 @@ pub part-lies : PartLies
 unfolding partSays
 part-lies r base memory request some = go (steAt r base memory request) refl some
   where
-    go : (at : Fetched) → steAt r base memory request ≡ at → (partSays at ≡ noPart → ⊥) → partSays (steAt r base memory request) + 64 ≤ length memory
+    go : (at : Reached) → steAt r base memory request ≡ at → (partSays at ≡ noPart → ⊥) → partSays (steAt r base memory request) + 64 ≤ length memory
     go (At place) is some = rw is (ste-inside r base memory request refl is)
-    go Outside is some = absurd (some refl)
+    go Nowhere is some = absurd (some refl)
 
 pub part-is-that-very : PartIsThatVery
 unfolding partSays
 part-is-that-very memory part (At place) handed some = (handed .contents, handed .block, handed .offset)
-part-is-that-very memory part Outside handed some = absurd (some refl)
+part-is-that-very memory part Nowhere handed some = absurd (some refl)

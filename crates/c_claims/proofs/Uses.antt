@@ -6,7 +6,8 @@ use mathlib.Core.Path.{_≡_, refl, sym, ap, _∙_}
 use lib.ListN.{length, take, drop, length-take, length-drop}
 use denote.Ref.{now}
 use Rattle.ids.specs.declared.Substream.the-variants.{Without, With}
-use Rattle.answer_words.specs.AnswerWords.{wordsOf, outcomeOf}
+use Rattle.answer_words.specs.AnswerWords.{wordsOf, ownEvent, outcomeOf}
+use Rattle.answers.specs.Outcome.{fetchEvent}
 use Rattle.answers.specs.declared.Outcome.the-variants.{Abort, Bypass}
 use Rattle.answers.specs.declared.Pieces.{Pieces}
 use Rattle.lookup_claims.specs.Claims.{smallRegisters, smallMemory, streamZero}
@@ -76,9 +77,10 @@ one-in-c =
 
 -- what was put is read back, so that different answers have different words
 apart : (l m : Pieces) → wordsOf (Bypass 0) l ≡ wordsOf (Abort 8) m → ⊥
+unfolding ownEvent fetchEvent
 apart l m is =
     let same : Bypass 0 ≡ Abort 8
-    = sym (kept-is-read-back (Bypass 0) l .same-outcome) ∙ ap outcomeOf is ∙ kept-is-read-back (Abort 8) m .same-outcome in
+    = sym (kept-is-read-back (Bypass 0) l .same-outcome refl) ∙ ap outcomeOf is ∙ kept-is-read-back (Abort 8) m .same-outcome refl in
     let z : _≡_ {A = ℕ} 0 1 = cc in
     omega arith
 

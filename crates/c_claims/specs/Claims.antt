@@ -13,11 +13,11 @@ use denote.Ref.{RefT, ptr, now}
 use Rattle.ids.specs.declared.Request.{Request}
 use Rattle.registers.specs.declared.Registers.{Registers}
 use Rattle.memory_image.specs.Extent.{Extent}
-use Rattle.memory_image.specs.declared.Fetched.{Fetched}
 use Rattle.lookup.specs.Lookup.{lookedUp, answerSays, answerPut, LooksUp}
 use Rattle.lookup.specs.Part.{SteHanded, steAt}
 use Rattle.lookup.specs.declared.Answer.the-variants as answer
 use Rattle.lookup.specs.declared.Looked.{Looked}
+use Rattle.lookup.specs.declared.part.Reached.{Reached}
 use Rattle.book.specs.Book.{Opened, Asks, Noticed}
 use Rattle.book.specs.Into.{askSays, askPut, AsksBook}
 use Rattle.book.specs.declared.Asked.{Asked}
@@ -85,6 +85,6 @@ PartLies =
 
 abbrev pub PartIsThatVery : Type 0
 PartIsThatVery =
-    (memory part : RefT (List ℕ)) (at : Fetched) → SteHanded memory part at → (partSays at ≡ noPart → ⊥)
+    (memory part : RefT (List ℕ)) (at : Reached) → SteHanded memory part at → (partSays at ≡ noPart → ⊥)
     → (now part ≡ take 64 (drop (partSays at) (now memory)))
     × (ptr part .0 ≡ ptr memory .0) × (ptr part .1 ≡ ptr memory .1 + partSays at)

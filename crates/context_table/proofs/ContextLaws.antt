@@ -14,18 +14,18 @@ use borrow.Author.Tests.{eq-eqb, ne-eqb}
 use lib.Dec.{eqb}
 use Rattle.bit_fields.proofs.ChoiceLaws.{either}
 use Rattle.bit_fields.specs.Bits.{bits, high, low}
-use Rattle.memory_image.specs.Extent.{extentOf, endOf, fetchRule}
+use Rattle.memory_image.specs.Extent.{extentOf, endOf, fetchRule, wanted}
 use Rattle.memory_image.specs.Words.{wordOf}
 use Rattle.memory_image.specs.Rule.{Rule, done, Fetches, Every, Gives}
 use Rattle.memory_image.specs.declared.Fetched.{Fetched}
 use Rattle.memory_image.specs.declared.Fetched.the-variants.{At, Outside}
 use Rattle.registers.specs.declared.Registers.{Registers}
-use Rattle.answers.specs.Outcome.{cBadSubstreamId, fCdFetch}
+use Rattle.answers.specs.Outcome.{cBadSubstreamId, fCdFetch, fetchEvent}
 use Rattle.answers.specs.Pieces.{pushPiece}
 use Rattle.answers.specs.Walk.{Walks}
 use Rattle.answers.specs.Proper.{listedEvent, properOutcome}
-use Rattle.answers.specs.declared.Outcome.the-variants.{Abort}
-use Rattle.answers.proofs.WalkLaws.{walk-done, fault-one, read-one}
+use Rattle.answers.specs.declared.Outcome.the-variants.{Abort, Fault}
+use Rattle.answers.proofs.WalkLaws.{walk-done, walk-fault, read-one}
 use Rattle.stream_entry.specs.StreamEntry.{s1Fmt, s1CdMax, s1ContextPtr}
 use Rattle.context_table.specs.ContextTable.{leafBits, l1cdRule, twoLevelRule, contextRule}
 use Rattle.context_table.specs.declared.Found.{Found}
@@ -49,11 +49,13 @@ module _ (base : ℕ) (memory : List ℕ) (r : Registers) (ws : List ℕ) where
   module _ (w : ℕ → ℕ) (leaf index : ℕ) {pointer above : ℕ} (is-pointer : pointer ≡ s1ContextPtr w) (upper : above ≡ high index leaf)
       {said : Fetched}
       (is : said ≡ fetchRule (extentOf base memory) (endOf (extentOf base memory)) (pointer + 8 * above) 8) where
-    pub two-fault : said ≡ Outside → Goes (twoLevelRule r (s1ContextPtr w) leaf index) (Ended (Abort fCdFetch)) ws
+    pub two-fault :
+        {a got : ℕ} → said ≡ Outside a → got ≡ wanted said → Goes (twoLevelRule r (s1ContextPtr w) leaf index) (Ended (Fault fCdFetch got)) ws
     unfolding twoLevelRule
-    two-fault out =
+    two-fault out told =
         rw (← is-pointer, ← upper)
-        (fault-one base memory (pointer + 8 * above) 1 is ws (Ended (Abort fCdFetch)) (λ entry. l1cdRule r leaf entry index) out)
+        (walk-fault base memory (pointer + 8 * above) 1 is ws (λ a. Ended (Fault fCdFetch a)) (λ entry. done (l1cdRule r leaf (entry 0) index))
+        out told)
 
     pub two-read :
         {place entry : ℕ} {found : Found} {longer : List ℕ} → said ≡ At place
@@ -62,7 +64,7 @@ module _ (base : ℕ) (memory : List ℕ) (r : Registers) (ws : List ℕ) where
     unfolding twoLevelRule
     two-read had push read says =
         rw (← is-pointer, ← upper)
-        (read-one base memory (pointer + 8 * above) 1 is ws (Ended (Abort fCdFetch)) (λ entry. l1cdRule r leaf entry index)
+        (read-one base memory (pointer + 8 * above) 1 is ws (Ended (Fault fCdFetch (pointer + 8 * above))) (λ entry. l1cdRule r leaf entry index)
         (omega arith) had read push says)
 
   module _ (w : ℕ → ℕ) (index : ℕ) {pointer max : ℕ} (is-pointer : pointer ≡ s1ContextPtr w) (is-max : max ≡ s1CdMax r w) where
@@ -112,6 +114,6 @@ module _ (r : Registers) (w : ℕ → ℕ) (index : ℕ) where
   context-every P eight = context-cases (Every P) (λ cd. tt) (eight, (tt, λ entry. tt))
 
   pub context-proper : Gives EndsProper (contextRule r w index)
-  unfolding twoLevelRule properOutcome listedEvent
+  unfolding twoLevelRule properOutcome fetchEvent
   context-proper =
       context-cases (Gives EndsProper) (λ cd. tt) (refl, λ entry. l1cd-proper r (leafBits (s1Fmt w)) (entry 0) index)

@@ -1,7 +1,8 @@
 -- From SubstreamID to CD (RULES, "From SubstreamID to CD"; 001).
 --     contextRule       the whole of it, from the STE's words and the index: start here
 --     leafBits          how many low bits of the index S1Fmt puts in the leaf
---     l1cdAt, l1cdRule  where the L1CD is, and what it says
+--     l1cdAt, fromL1cd  where the L1CD is, and its fetch
+--     l1cdRule          what it says
 -- Ours: neither S1ContextPtr nor the L1CD's L2Ptr is aligned down; an L1CD with V clear is C_BAD_SUBSTREAMID also when CD 0 is used for a
 -- request without a SubstreamID.
 -- The CD itself is fetched by whoever asks where it is.
@@ -13,7 +14,7 @@ use Rattle.bit_fields.specs.Choice.{if_then_else_}
 use Rattle.memory_image.specs.Rule.{Rule, done, fetch}
 use Rattle.registers.specs.declared.Registers.{Registers}
 use Rattle.answers.specs.Outcome.{cBadSubstreamId, fCdFetch}
-use Rattle.answers.specs.declared.Outcome.the-variants.{Abort}
+use Rattle.answers.specs.declared.Outcome.the-variants.{Abort, Fault}
 use Rattle.stream_entry.specs.StreamEntry.{s1Fmt, s1CdMax, s1ContextPtr}
 use Rattle.context_table.specs.declared.Found.{Found}
 use Rattle.context_table.specs.declared.Found.the-variants.{Cd, Ended}
@@ -34,10 +35,13 @@ l1cdRule r leaf l1cd index =
     if eqb (bits 0 0 l1cd) 0 then Ended (Abort cBadSubstreamId)
     else Cd (bits 55 12 l1cd * 2 ^ 12 + 64 * low index leaf)
 
+-- from an L1CD's address: it is 8 bytes; a fetch that fails is F_CD_FETCH with that address
+abbrev pub fromL1cd : Registers → ℕ → ℕ → ℕ → Rule Found
+fromL1cd r leaf index address = fetch address 1 (done (Ended (Fault fCdFetch address))) (λ w. done (l1cdRule r leaf (w 0) index))
+
 -- a two-level table at a pointer, with so many low bits of the index in the leaf
 unfoldable pub twoLevelRule : Registers → ℕ → ℕ → ℕ → Rule Found
-twoLevelRule r pointer leaf index =
-    fetch (l1cdAt pointer leaf index) 1 (done (Ended (Abort fCdFetch))) (λ w. done (l1cdRule r leaf (w 0) index))
+twoLevelRule r pointer leaf index = fromL1cd r leaf index (l1cdAt pointer leaf index)
 
 -- with S1CDMax 0, S1Fmt is ignored and the one CD is at S1ContextPtr; S1Fmt 0: S1ContextPtr + 64 x index
 unfoldable pub contextRule : Registers → (ℕ → ℕ) → ℕ → Rule Found

@@ -53,8 +53,10 @@ fn two_level(
 {
     let pointer = fields::s1_context_ptr(memory, ste);
     let address = pointer + 8 * high(index as u64, leaf);
-    let Fetched::At(place) = memory_image::fetch(base, memory, address, 8) else {
-        return Found::Ended(Outcome::Abort(answers::F_CD_FETCH));
+    let fetched = memory_image::fetch(base, memory, address, 8);
+    let Fetched::At(place) = fetched else {
+        let wanted = fetched.wanted();
+        return Found::Ended(Outcome::Fault(answers::F_CD_FETCH, wanted));
     };
     answers::push_piece(words, address, 8);
     let l1cd = memory_image::word_of(memory, place, 0);

@@ -39,6 +39,7 @@ fn outcome(out: &mut [u8], at: usize, registers: Registers, answer: Outcome) -> 
         Outcome::Bypass(ste) => address(out, at, b"bypass ste ", ste),
         Outcome::BypassGlobal => bytes(out, at, b"bypass global"),
         Outcome::Abort(event) => abort(out, at, registers, event),
+        Outcome::Fault(event, wanted) => fault(out, at, registers, event, wanted),
         Outcome::Quiet => bytes(out, at, b"quiet"),
         Outcome::Unserved(case) => decimal(out, at, b"unserved ", case),
     }
@@ -66,6 +67,12 @@ fn abort(out: &mut [u8], at: usize, registers: Registers, event: u64) -> usize {
     let number = (event % 256) as u8;
     let to = kind(out, at, answers::is_recorded(registers, event));
     pair(out, to, number, b"0123456789ABCDEF")
+}
+
+// A fault: an abort, and the address that its fetch wanted.
+fn fault(out: &mut [u8], at: usize, registers: Registers, event: u64, wanted: u64) -> usize {
+    let to = abort(out, at, registers, event);
+    address(out, to, b" address ", wanted)
 }
 
 // Whether the event is recorded, as a word.

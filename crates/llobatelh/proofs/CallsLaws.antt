@@ -11,8 +11,8 @@ use mathlib.Core.List.{List, [], _∷_}
 use Rattle.ids.specs.declared.Request.{Request}
 use Rattle.registers.specs.declared.Registers.{Registers}
 use Rattle.memory_image.specs.Extent.{Extent}
-use Rattle.memory_image.specs.declared.Fetched.{Fetched}
-use Rattle.memory_image.specs.declared.Fetched.the-variants.{At, Outside}
+use Rattle.lookup.specs.declared.part.Reached.{Reached}
+use Rattle.lookup.specs.declared.part.Reached.the-variants.{At, Nowhere}
 use Rattle.answers.specs.Outcome.{recorded}
 use Rattle.lookup.specs.Part.{steAt}
 use Rattle.book.specs.Book.{Opened, Noticed}
@@ -24,13 +24,13 @@ use Rattle.report.specs.declared.Written.the-variants as written
 use Rattle.llobatelh.specs.Calls.{partSays, saidSays, OpensBook, NoticesBook, writtenSays, lengthPut, ReportsBook, recordedSays}
 
 -- the STE's place
-module _ {r r′ : Registers} (is-r : r ≡ r′) {q q′ : Request} (is-q : q ≡ q′) (base : ℕ) (memory : List ℕ) {at : Fetched}
+module _ {r r′ : Registers} (is-r : r ≡ r′) {q q′ : Request} (is-q : q ≡ q′) (base : ℕ) (memory : List ℕ) {at : Reached}
     (is : at ≡ steAt r base memory q) where
   pub part-at : {place : ℕ} → at ≡ At place → place ≡ partSays (steAt r′ base memory q′)
   unfolding partSays
   part-at so = rw (← is-r, ← is-q, ← is, so)
 
-  pub part-none : at ≡ Outside → 2 ^ 64 - 1 ≡ partSays (steAt r′ base memory q′)
+  pub part-none : at ≡ Nowhere → 2 ^ 64 - 1 ≡ partSays (steAt r′ base memory q′)
   unfolding partSays
   part-none so = rw (← is-r, ← is-q, ← is, so)
 

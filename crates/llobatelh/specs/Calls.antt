@@ -13,8 +13,8 @@ use lib.ListN.{length}
 use Rattle.bit_fields.specs.Choice.{if_then_else_}
 use Rattle.registers.specs.declared.Registers.{Registers}
 use Rattle.memory_image.specs.Extent.{Extent}
-use Rattle.memory_image.specs.declared.Fetched.{Fetched}
-use Rattle.memory_image.specs.declared.Fetched.the-variants.{At, Outside}
+use Rattle.lookup.specs.declared.part.Reached.{Reached}
+use Rattle.lookup.specs.declared.part.Reached.the-variants.{At, Nowhere}
 use Rattle.answers.specs.Outcome.{recorded}
 use Rattle.book_words.specs.Layout.{slotsMost, openedWith}
 use Rattle.book.specs.Book.{openSays, ifDone, noticeSays, struckFrom}
@@ -29,9 +29,9 @@ use Rattle.report.specs.declared.Written.the-variants as written
 abbrev pub noPart : ℕ
 noPart = 2 ^ 64 - 1
 
-unfoldable pub partSays : Fetched → ℕ
+unfoldable pub partSays : Reached → ℕ
 partSays (At place) = place
-partSays Outside = noPart
+partSays Nowhere = noPart
 
 -- llobatelh_open, llobatelh_notice
 unfoldable pub saidSays : Said → ℕ

@@ -9,7 +9,7 @@ ghost use Rattle.lookup.specs.Part.{steAt};
 ghost use Rattle.llobatelh.specs.Calls.{partSays, recordedSays};
 use answers::ANSWER_WORDS;
 use ids::Request;
-use memory_image::Fetched;
+use lookup::part::Reached;
 use registers::REGISTER_WORDS;
 use registers::Registers;
 
@@ -61,8 +61,8 @@ pub extern "C" fn llobatelh_ste_part(
     let request = Request::from_numbers(stream, given, substream);
     let at = lookup::part::ste_at(regs, base, memory, request);
     match at {
-        Fetched::At(place) => place as u64,
-        Fetched::Outside => NO_PART,
+        Reached::At(place) => place as u64,
+        Reached::Nowhere => NO_PART,
     }
 }
 

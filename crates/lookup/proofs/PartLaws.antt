@@ -27,15 +27,13 @@ use Rattle.memory_image.specs.Extent.{extentOf, fetched, refusal2}
 use Rattle.memory_image.specs.Words.{bytes}
 use Rattle.memory_image.specs.Rule.{Rule, done, fetch, Ran, run, Each}
 use Rattle.memory_image.specs.declared.Piece.{Piece}
-use Rattle.memory_image.specs.declared.Fetched.{Fetched}
-use Rattle.memory_image.specs.declared.Fetched.the-variants.{At, Outside}
 use Rattle.memory_image.proofs.ExtentLaws.{fetched-lies}
 use Rattle.memory_image.proofs.RunLaws.{run-done, run-had, run-fault, run-then, run-every}
 use Rattle.answers.specs.Layout.{piecesMost}
 use Rattle.answers.specs.Outcome.{fSteFetch}
 use Rattle.answers.specs.Pieces.{none, nothing, padded, piecesOf}
 use Rattle.answers.specs.declared.Outcome.{Outcome}
-use Rattle.answers.specs.declared.Outcome.the-variants.{Abort}
+use Rattle.answers.specs.declared.Outcome.the-variants.{Fault}
 use Rattle.stream_table.specs.StreamTable.{streamRule}
 use Rattle.stream_table.specs.declared.Found.{Found}
 use Rattle.stream_table.specs.declared.Found.the-variants.{Ste, Ended}
@@ -44,11 +42,13 @@ use Rattle.stream_entry.specs.StreamEntry.{steRule}
 use Rattle.lookup.specs.Lookup.{fromEntry, fromSte, lookupRule, ruled, lookedUp, refusedWith}
 use Rattle.lookup.specs.Part.{placeOf, steAtRule, steAt, steFrom, SteHanded}
 use Rattle.lookup.specs.declared.Looked.{Looked}
+use Rattle.lookup.specs.declared.part.Reached.{Reached}
+use Rattle.lookup.specs.declared.part.Reached.the-variants.{At, Nowhere}
 use Rattle.lookup.proofs.RuledLaws.{ruled-few}
 
 -- the loop over the pieces: i passed
 module _ (base : ℕ) (pieces : List Piece) (n : ℕ) {i : ℕ} (left : steFrom base pieces n 0 ≡ steFrom base pieces (n - i) i) where
-  pub from-end : n ≤ i → Outside ≡ steFrom base pieces n 0
+  pub from-end : n ≤ i → Nowhere ≡ steFrom base pieces n 0
   unfolding steFrom
   from-end past = sym (left ∙ rw (left-none n i past))
 
@@ -63,8 +63,8 @@ module _ (base : ℕ) (pieces : List Piece) (n : ℕ) {i : ℕ} (left : steFrom 
     from-on short = left ∙ rw (left-one n i more, ne-eqb (getD pieces i nothing .length) 64 short)
 
 -- the first piece of 64 bytes in a list
-abbrev firstLong : ℕ → List Piece → Fetched
-firstLong base [] = Outside
+abbrev firstLong : ℕ → List Piece → Reached
+firstLong base [] = Nowhere
 firstLong base (p ∷ l) =
     if eqb (p .length) 64 then At (p .address - base)
     else firstLong base l
@@ -89,7 +89,7 @@ module _ (base : ℕ) where
   behind front (suc m) [] room = one front nothing (padded m []) m ∙ behind (front ++ (nothing ∷ [])) m [] (omega arith)
   behind front (suc m) (p ∷ l) room =
       one front p (padded m l) m
-      ∙ ap (λ (at : Fetched). if eqb (p .length) 64 then At (p .address - base) else at) (behind (front ++ (p ∷ [])) m l (omega arith))
+      ∙ ap (λ (at : Reached). if eqb (p .length) 64 then At (p .address - base) else at) (behind (front ++ (p ∷ [])) m l (omega arith))
 
   -- an L1STD is passed
   passed : (l more : List Piece) → Each (λ p. p .length ≡ 8) l → firstLong base (l ++ more) ≡ firstLong base more
@@ -112,24 +112,24 @@ module _ (r : Registers) (base : ℕ) (memory : List ℕ) where
 
       go :
           (b : Bool) → fetched (extentOf base memory) limit ste 64 ≡ b
-          → firstLong base (run (extentOf base memory) limit (bytes memory) (fetch ste 8 (done (Abort fSteFetch)) rest) .list)
-          ≡ run (extentOf base memory) limit (bytes memory) (fetch ste 8 (done Outside) (λ w. done (At (ste - base)))) .answer
+          → firstLong base (run (extentOf base memory) limit (bytes memory) (fetch ste 8 (done (Fault fSteFetch ste)) rest) .list)
+          ≡ run (extentOf base memory) limit (bytes memory) (fetch ste 8 (done Nowhere) (λ w. done (At (ste - base)))) .answer
       go true test =
           rw (
-            run-had (extentOf base memory) limit (bytes memory) ste 8 (done (Abort fSteFetch)) rest test,
-            run-had (extentOf base memory) limit (bytes memory) ste 8 (done Outside) (λ w. done (At (ste - base))) test,
+            run-had (extentOf base memory) limit (bytes memory) ste 8 (done (Fault fSteFetch ste)) rest test,
+            run-had (extentOf base memory) limit (bytes memory) ste 8 (done Nowhere) (λ w. done (At (ste - base))) test,
             run-done,
           )
       go false test =
           rw (
-            run-fault (extentOf base memory) limit (bytes memory) ste 8 (done (Abort fSteFetch)) rest test,
-            run-fault (extentOf base memory) limit (bytes memory) ste 8 (done Outside) (λ w. done (At (ste - base))) test,
+            run-fault (extentOf base memory) limit (bytes memory) ste 8 (done (Fault fSteFetch ste)) rest test,
+            run-fault (extentOf base memory) limit (bytes memory) ste 8 (done Nowhere) (λ w. done (At (ste - base))) test,
             run-done,
             run-done,
           )
 
   module _ (request : Request) where
-    abbrev walked : Fetched
+    abbrev walked : Reached
     walked = run (extentOf base memory) (2 ^ oasSize r) (bytes memory) (steAtRule r base (request .stream .number)) .answer
 
     ruled-first : firstLong base (ruled r base memory request .list) ≡ walked
@@ -142,14 +142,14 @@ module _ (r : Registers) (base : ℕ) (memory : List ℕ) where
         ap (λ (ran : Ran Outcome). firstLong base (ran .list)) on
         ∙ passed base (run (extentOf base memory) (2 ^ oasSize r) (bytes memory) (streamRule r (request .stream .number)) .list) _ eight
         ∙ found-first (2 ^ oasSize r) (request .substream) _
-        ∙ sym (ap (λ (ran : Ran Fetched). ran .answer) at)
+        ∙ sym (ap (λ (ran : Ran Reached). ran .answer) at)
 
-    none-first : (n : ℕ) → steFrom base (refusedWith n .list .piece) piecesMost 0 ≡ Outside
+    none-first : (n : ℕ) → steFrom base (refusedWith n .list .piece) piecesMost 0 ≡ Nowhere
     unfolding none steFrom
     none-first n = refl
 
     pub listed-at :
-        {looked : Looked} → looked ≡ lookedUp r base memory request → {at : Fetched} → at ≡ steFrom base (looked .list .piece) piecesMost 0
+        {looked : Looked} → looked ≡ lookedUp r base memory request → {at : Reached} → at ≡ steFrom base (looked .list .piece) piecesMost 0
         → at ≡ steAt r base memory request
     unfolding lookedUp steAt piecesOf
     listed-at is found =
@@ -158,14 +158,14 @@ module _ (r : Registers) (base : ℕ) (memory : List ℕ) where
         (alike Hands (refusal1 r) (none-first 1)
         (alike Hands (refusal2 (extentOf base memory)) (none-first 2) (alike Hands (refusal3 request) (none-first 3) last)))
       where
-        Hands : Looked → Fetched → Type 0
+        Hands : Looked → Reached → Type 0
         Hands looked at = steFrom base (looked .list .piece) piecesMost 0 ≡ at
 
         last : steFrom base (padded piecesMost (ruled r base memory request .list)) piecesMost 0 ≡ walked
         last = behind base [] piecesMost (ruled r base memory request .list) (ruled-few r base memory request) ∙ ruled-first
 
 -- what is found lies in the memory
-nowhere : {A : Type 0} {place : ℕ} → Outside ≡ At place → A
+nowhere : {A : Type 0} {place : ℕ} → Nowhere ≡ At place → A
 nowhere is = let z : _≡_ {A = ℕ} 0 1 = cc in absurd (omega arith)
 
 module _ (base : ℕ) (memory : List ℕ) (limit place : ℕ) where
@@ -182,42 +182,42 @@ module _ (base : ℕ) (memory : List ℕ) (limit place : ℕ) where
       (found : Found) → run (extentOf base memory) limit (bytes memory) (placeOf base found) .answer ≡ At place
       → place + 64 ≤ length memory
   unfolding placeOf
-  place-inside (Ended outcome) is = nowhere (rw (run-done (extentOf base memory) limit (bytes memory) Outside) at is)
+  place-inside (Ended outcome) is = nowhere (rw (run-done (extentOf base memory) limit (bytes memory) Nowhere) at is)
   place-inside (Ste ste) is = go (fetched (extentOf base memory) limit ste 64) refl
     where
       go : (b : Bool) → fetched (extentOf base memory) limit ste 64 ≡ b → place + 64 ≤ length memory
       go true test =
           had-inside ste test
-          (rw (run-had (extentOf base memory) limit (bytes memory) ste 8 (done Outside) (λ w. done (At (ste - base))) test, run-done) at is)
+          (rw (run-had (extentOf base memory) limit (bytes memory) ste 8 (done Nowhere) (λ w. done (At (ste - base))) test, run-done) at is)
       go false test =
           nowhere
-          (rw (run-fault (extentOf base memory) limit (bytes memory) ste 8 (done Outside) (λ w. done (At (ste - base))) test, run-done) at is)
+          (rw (run-fault (extentOf base memory) limit (bytes memory) ste 8 (done Nowhere) (λ w. done (At (ste - base))) test, run-done) at is)
 
 pub ste-inside :
-    (r : Registers) (base : ℕ) (memory : List ℕ) (request : Request) {at : Fetched} {place : ℕ}
+    (r : Registers) (base : ℕ) (memory : List ℕ) (request : Request) {at : Reached} {place : ℕ}
     → at ≡ steAt r base memory request → at ≡ At place → place + 64 ≤ length memory
 unfolding steAt steAtRule
 ste-inside r base memory request {at} {place} said is =
     either Inside (refusal1 r) nowhere
     (either Inside (refusal2 (extentOf base memory)) nowhere (either Inside (refusal3 request) nowhere walked)) (sym said ∙ is)
   where
-    Inside : Fetched → Type 0
+    Inside : Reached → Type 0
     Inside found = found ≡ At place → place + 64 ≤ length memory
 
     walked : Inside (run (extentOf base memory) (2 ^ oasSize r) (bytes memory) (steAtRule r base (request .stream .number)) .answer)
     walked found =
         let chained = run-then (extentOf base memory) (2 ^ oasSize r) (bytes memory) (placeOf base) (streamRule r (request .stream .number)) in
-        place-inside base memory (2 ^ oasSize r) place _ (sym (ap (λ (ran : Ran Fetched). ran .answer) chained) ∙ found)
+        place-inside base memory (2 ^ oasSize r) place _ (sym (ap (λ (ran : Ran Reached). ran .answer) chained) ∙ found)
 
 pub ste-end-fits :
-    (r : Registers) (base : ℕ) (memory : List ℕ) (request : Request) {at : Fetched} {place : ℕ}
+    (r : Registers) (base : ℕ) (memory : List ℕ) (request : Request) {at : Reached} {place : ℕ}
     → at ≡ steAt r base memory request → at ≡ At place → length memory < 2 ^ 64 → place + 64 < 2 ^ 64
 ste-end-fits r base memory request said is fits = omega (arith, ste-inside r base memory request said is)
 
 -- the part itself, pinned by its bytes and its pointer
-module _ (memory part : RefT (List ℕ)) {said at : Fetched} (is : said ≡ at) where
+module _ (memory part : RefT (List ℕ)) {said at : Reached} (is : said ≡ at) where
   pub part-none :
-      said ≡ Outside → now part ≡ take 0 (drop 0 (now memory)) → ptr part .0 ≡ ptr memory .0 → ptr part .1 ≡ ptr memory .1 + 0
+      said ≡ Nowhere → now part ≡ take 0 (drop 0 (now memory)) → ptr part .0 ≡ ptr memory .0 → ptr part .1 ≡ ptr memory .1 + 0
       → SteHanded memory part at
   part-none out contents block offset = rw (← is, out) (record { contents = contents; block = block; offset = offset })
 

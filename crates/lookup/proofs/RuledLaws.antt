@@ -1,11 +1,11 @@
 -- From the walk to what the rules give, and the refusals.
 --     lookup-few, ruled-few      at most four descriptors are fetched, and listed
 --     lookup-every               of 8 bytes or of 64
---     lookup-gives               whatever can be given is proper
+--     lookup-gives, ruled-proper whatever can be given is proper
 --     limit-is                   2^(OAS size), as the code computes it
 --     answer-ruled               the walk, with its outcome put before its list, is what the rules give
 --     refused-first .. answered-last    the refusals in their order, and the answer
---     shaped                     an answer has a whole array, and a refusal a number from 1 to 3 and no list
+--     shaped                     an answer is proper and has a whole array, and a refusal a number from 1 to 3 and no list
 --     looked-handed              by the registers and the request that were made of numbers
 --     looked-is, looked-refused  an answer, or a refusal, read back from the words
 -- Assumes: nothing.
@@ -30,18 +30,19 @@ use Rattle.memory_image.specs.Extent.{extentOf, endOf, below, refusal2}
 use Rattle.memory_image.specs.Words.{bytes}
 use Rattle.memory_image.specs.Rule.{Fetches, Every, Gives, run}
 use Rattle.memory_image.proofs.Claims.{listed-few}
-use Rattle.memory_image.proofs.RunLaws.{fetches-then, every-then, gives-then}
+use Rattle.memory_image.proofs.RunLaws.{fetches-then, every-then, gives-then, run-gives}
 use Rattle.memory_image.proofs.BelowLaws.{run-below}
 use Rattle.answers.specs.Layout.{piecesMost, answerWords}
+use Rattle.answers.specs.Outcome.{fetchEvent}
 use Rattle.answers.specs.Pieces.{none, piecesOf}
-use Rattle.answers.specs.Proper.{listedEvent, properOutcome}
+use Rattle.answers.specs.Proper.{properOutcome}
 use Rattle.answers.specs.Walk.{Walks}
 use Rattle.answers.specs.declared.Outcome.{Outcome}
 use Rattle.answers.specs.declared.Pieces.{Pieces}
 use Rattle.answers.proofs.PiecesLaws.{pieces-length}
 use Rattle.answers.proofs.WalkLaws.{walk-run}
 use Rattle.answer_words.specs.AnswerWords.{wordsOf, outcomeOf, listOf, outcomePut}
-use Rattle.answer_words.proofs.AnswerWordsLaws.{put-words, outcome-back, list-back}
+use Rattle.answer_words.proofs.AnswerWordsLaws.{put-words, outcome-back, proper-own, list-back}
 use Rattle.stream_table.specs.StreamTable.{streamRule}
 use Rattle.stream_table.specs.declared.Found.{Found}
 use Rattle.stream_table.specs.declared.Found.the-variants as stream
@@ -113,7 +114,7 @@ abbrev pub ProperOutcome : Outcome → Type 0
 ProperOutcome outcome = properOutcome outcome ≡ true
 
 cd-gives : (r : Registers) (ste : ℕ) (found : CdFound) → ContextProper found → Gives ProperOutcome (fromCd r ste found)
-unfolding fromCd properOutcome listedEvent
+unfolding fromCd properOutcome fetchEvent
 cd-gives r ste (context.Ended outcome) proper = proper
 cd-gives r ste (context.Cd cd) proper = (refl, λ w. cd-proper r ste cd w)
 
@@ -126,7 +127,7 @@ entry-gives r ste w (entry.Stage1 index) proper =
 
 ste-gives :
     (r : Registers) (substream : Substream) (found : Found) → StreamProper found → Gives ProperOutcome (fromSte r substream found)
-unfolding fromSte properOutcome listedEvent
+unfolding fromSte properOutcome fetchEvent
 ste-gives r substream (stream.Ended outcome) proper = proper
 ste-gives r substream (stream.Ste ste) proper =
     (refl, λ w. entry-gives r ste w (steRule r substream ste w) (ste-proper r substream ste w))
@@ -149,6 +150,11 @@ module _ (r : Registers) (base : ℕ) (memory : List ℕ) (request : Request) wh
   ruled-few =
       let few = listed-few Outcome (extentOf base memory) (2 ^ oasSize r) (bytes memory) 4 (lookupRule r request) (lookup-few r request) in
       omega arith
+
+  pub ruled-proper : ProperOutcome (ruled r base memory request .answer)
+  unfolding ruled
+  ruled-proper =
+      run-gives (extentOf base memory) (2 ^ oasSize r) (bytes memory) ProperOutcome (lookupRule r request) (lookup-gives r request)
 
   -- on the memory below the limit the rules give the same
   ruled-below :
@@ -200,10 +206,10 @@ pub looked-handed :
     → LooksUp (lookedUp r base memory request) before says after → LooksUp (lookedUp r′ base memory request′) before says after
 looked-handed base memory before is-r is-request looked = rw (is-r, is-request) at looked
 
--- an answer has a whole array, and a refusal a number from 1 to 3 and no list
+-- an answer is proper and has a whole array, and a refusal a number from 1 to 3 and no list
 abbrev pub Shaped : Answer → Pieces → Type 0
 Shaped (Refused n) l = (1 ≤ n) × ((n ≤ 3) × (l ≡ none))
-Shaped (Is outcome) l = length (l .piece) ≡ piecesMost
+Shaped (Is outcome) l = ProperOutcome outcome × (length (l .piece) ≡ piecesMost)
 
 module _ (r : Registers) (base : ℕ) (memory : List ℕ) (request : Request) where
   abbrev Whole : Looked → Type 0
@@ -214,7 +220,8 @@ module _ (r : Registers) (base : ℕ) (memory : List ℕ) (request : Request) wh
   shaped =
       either Whole (refusal1 r) (omega arith, (omega arith, refl))
       (either Whole (refusal2 (extentOf base memory)) (omega arith, (omega arith, refl))
-      (either Whole (refusal3 request) (omega arith, (omega arith, refl)) (pieces-length (ruled r base memory request .list))))
+      (either Whole (refusal3 request) (omega arith, (omega arith, refl))
+      (ruled-proper r base memory request, pieces-length (ruled r base memory request .list))))
 
   module _ {narrow : List ℕ} (is-narrow : narrow ≡ wordsOfRegisters r) {given substream : ℕ} (is-given : given ≡ givenOf (request .substream))
       (is-substream : substream ≡ numberOf (request .substream)) {number : ℕ} {after : List ℕ}
@@ -241,7 +248,7 @@ module _ (r : Registers) (base : ℕ) (memory : List ℕ) (request : Request) wh
             (a : Answer) (l : Pieces) → record { answer = a; list = l } ≡ lookedUp r base memory request → Shaped a l
             → Into (record { answer = a; list = l }) → record { answer = Is outcome; list = list } ≡ lookedUp r base memory request
         go (Refused n) l same shape put = absurd (omega (arith, shape .0, put .result))
-        go (Is o) l same shape put = rw (told, read, put .words, outcome-back o l, list-back o l shape) same
+        go (Is o) l same shape put = rw (told, read, put .words, outcome-back o l (proper-own o (shape .0)), list-back o l (shape .1)) same
 
     pub looked-refused : (number ≡ 0 → ⊥) → record { answer = Refused number; list = list } ≡ lookedUp r base memory request
     unfolding Into answerSays answerPut listOf none

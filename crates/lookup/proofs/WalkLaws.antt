@@ -10,7 +10,7 @@ use mathlib.Core.List.{List}
 use Rattle.ids.specs.declared.Request.{Request}
 use Rattle.ids.specs.declared.Substream.{Substream}
 use Rattle.registers.specs.declared.Registers.{Registers}
-use Rattle.memory_image.specs.Extent.{extentOf, endOf, fetchRule}
+use Rattle.memory_image.specs.Extent.{extentOf, endOf, fetchRule, wanted}
 use Rattle.memory_image.specs.Words.{wordOf}
 use Rattle.memory_image.specs.Rule.{Rule, done, andThen}
 use Rattle.memory_image.specs.declared.Fetched.{Fetched}
@@ -19,7 +19,7 @@ use Rattle.answers.specs.Outcome.{fSteFetch, fCdFetch}
 use Rattle.answers.specs.Pieces.{pushPiece}
 use Rattle.answers.specs.Walk.{Walks}
 use Rattle.answers.specs.declared.Outcome.{Outcome}
-use Rattle.answers.specs.declared.Outcome.the-variants.{Abort}
+use Rattle.answers.specs.declared.Outcome.the-variants.{Fault}
 use Rattle.answers.proofs.WalkLaws.{walk-done, walk-fault, read-all, walk-then}
 use Rattle.stream_table.specs.StreamTable.{streamRule}
 use Rattle.stream_table.specs.declared.Found.{Found}
@@ -39,10 +39,9 @@ module _ (base : ℕ) (memory : List ℕ) (r : Registers) (ws : List ℕ) where
 
   -- from where the CD is
   module _ (ste cd : ℕ) {said : Fetched} (is : said ≡ fetchRule (extentOf base memory) (endOf (extentOf base memory)) cd 64) where
-    pub cd-fault : said ≡ Outside → Goes (fromCd r ste (context.Cd cd)) (Abort fCdFetch) ws
+    pub cd-fault : {a got : ℕ} → said ≡ Outside a → got ≡ wanted said → Goes (fromCd r ste (context.Cd cd)) (Fault fCdFetch got) ws
     unfolding fromCd
-    cd-fault out =
-        walk-fault base memory cd 8 is ws (done (Abort fCdFetch)) (λ w. done (cdRule r ste cd w)) out (walk-done base memory refl ws)
+    cd-fault out told = walk-fault base memory cd 8 is ws (λ a. Fault fCdFetch a) (λ w. done (cdRule r ste cd w)) out told
 
     pub cd-read :
         {place : ℕ} {outcome : Outcome} {longer : List ℕ} → said ≡ At place
@@ -50,7 +49,7 @@ module _ (base : ℕ) (memory : List ℕ) (r : Registers) (ws : List ℕ) where
         → Goes (fromCd r ste (context.Cd cd)) outcome longer
     unfolding fromCd
     cd-read {longer = longer} had push says =
-        read-all base memory cd is ws (done (Abort fCdFetch)) (λ w. done (cdRule r ste cd w)) had push (walk-done base memory says longer)
+        read-all base memory cd is ws (done (Fault fCdFetch cd)) (λ w. done (cdRule r ste cd w)) had push (walk-done base memory says longer)
 
   -- from the index of the CD
   module _ (ste : ℕ) (w : ℕ → ℕ) (index : ℕ) {found : CdFound} {longer : List ℕ} (said : Walks base memory (contextRule r w index) ws found longer) where
@@ -76,9 +75,10 @@ module _ (base : ℕ) (memory : List ℕ) (r : Registers) (ws : List ℕ) where
     abbrev rest : (ℕ → ℕ) → Rule Outcome
     rest w = fromEntry r ste w (steRule r substream ste w)
 
-    pub ste-fault : said ≡ Outside → Goes (fromSte r substream (stream.Ste ste)) (Abort fSteFetch) ws
+    pub ste-fault :
+        {a got : ℕ} → said ≡ Outside a → got ≡ wanted said → Goes (fromSte r substream (stream.Ste ste)) (Fault fSteFetch got) ws
     unfolding fromSte
-    ste-fault out = walk-fault base memory ste 8 is ws (done (Abort fSteFetch)) rest out (walk-done base memory refl ws)
+    ste-fault out told = walk-fault base memory ste 8 is ws (λ a. Fault fSteFetch a) rest out told
 
     module _ {place : ℕ} {longer : List ℕ} (had : said ≡ At place) (push : longer ≡ pushPiece ws (record { address = ste; length = 64 }))
         {says : Entry} (told : says ≡ steRule r substream ste (wordOf memory place)) where
@@ -86,7 +86,7 @@ module _ (base : ℕ) (memory : List ℕ) (r : Registers) (ws : List ℕ) where
           {outcome : Outcome} {last : List ℕ} → Walks base memory (fromEntry r ste (wordOf memory place) says) longer outcome last
           → Goes (fromSte r substream (stream.Ste ste)) outcome last
       unfolding fromSte
-      on-ste goes = read-all base memory ste is ws (done (Abort fSteFetch)) rest had push (rw told at goes)
+      on-ste goes = read-all base memory ste is ws (done (Fault fSteFetch ste)) rest had push (rw told at goes)
 
       pub ste-ended : {outcome : Outcome} → says ≡ entry.Ended outcome → Goes (fromSte r substream (stream.Ste ste)) outcome longer
       unfolding fromEntry

@@ -19,7 +19,7 @@ use Rattle.memory_image.specs.Rule.{Rule, done, fetch, Ran, run, andThen}
 use Rattle.answers.specs.Outcome.{fSteFetch, fCdFetch}
 use Rattle.answers.specs.Pieces.{none, piecesOf}
 use Rattle.answers.specs.declared.Outcome.{Outcome}
-use Rattle.answers.specs.declared.Outcome.the-variants.{Abort}
+use Rattle.answers.specs.declared.Outcome.the-variants.{Fault}
 use Rattle.answers.specs.declared.Pieces.{Pieces}
 use Rattle.answer_words.specs.AnswerWords.{wordsOf}
 use Rattle.stream_table.specs.StreamTable.{streamRule}
@@ -36,21 +36,21 @@ use Rattle.lookup.specs.declared.Looked.{Looked}
 use Rattle.lookup.specs.declared.Answer.{Answer}
 use Rattle.lookup.specs.declared.Answer.the-variants.{Refused, Is}
 
--- the CD is 64 bytes; a fetch that fails is F_CD_FETCH
+-- the CD is 64 bytes; a fetch that fails is F_CD_FETCH with the CD's address
 unfoldable pub fromCd : Registers → ℕ → CdFound → Rule Outcome
 fromCd r ste (context.Ended outcome) = done outcome
-fromCd r ste (context.Cd cd) = fetch cd 8 (done (Abort fCdFetch)) (λ w. done (cdRule r ste cd w))
+fromCd r ste (context.Cd cd) = fetch cd 8 (done (Fault fCdFetch cd)) (λ w. done (cdRule r ste cd w))
 
 -- from what the STE says, with its words
 unfoldable pub fromEntry : Registers → ℕ → (ℕ → ℕ) → Entry → Rule Outcome
 fromEntry r ste w (entry.Ended outcome) = done outcome
 fromEntry r ste w (entry.Stage1 index) = andThen (contextRule r w index) (fromCd r ste)
 
--- the STE is 64 bytes; a fetch that fails is F_STE_FETCH
+-- the STE is 64 bytes; a fetch that fails is F_STE_FETCH with the STE's address
 unfoldable pub fromSte : Registers → Substream → Found → Rule Outcome
 fromSte r substream (stream.Ended outcome) = done outcome
 fromSte r substream (stream.Ste ste) =
-    fetch ste 8 (done (Abort fSteFetch)) (λ w. fromEntry r ste w (steRule r substream ste w))
+    fetch ste 8 (done (Fault fSteFetch ste)) (λ w. fromEntry r ste w (steRule r substream ste w))
 
 unfoldable pub lookupRule : Registers → Request → Rule Outcome
 lookupRule r request = andThen (streamRule r (request .stream .number)) (fromSte r (request .substream))

@@ -19,47 +19,47 @@ use Rattle.memory_image.specs.Extent.{extentOf, refusal2}
 use Rattle.memory_image.specs.Words.{bytes}
 use Rattle.memory_image.specs.Rule.{Rule, done, fetch, run, andThen}
 use Rattle.memory_image.specs.declared.Piece.{Piece}
-use Rattle.memory_image.specs.declared.Fetched.{Fetched}
-use Rattle.memory_image.specs.declared.Fetched.the-variants.{At, Outside}
 use Rattle.answers.specs.Pieces.{nothing}
 use Rattle.stream_table.specs.StreamTable.{streamRule}
 use Rattle.stream_table.specs.declared.Found.{Found}
 use Rattle.stream_table.specs.declared.Found.the-variants.{Ste, Ended}
+use Rattle.lookup.specs.declared.part.Reached.{Reached}
+use Rattle.lookup.specs.declared.part.Reached.the-variants.{At, Nowhere}
 
 -- where the STE lies, once its address is known
-unfoldable pub placeOf : ℕ → Found → Rule Fetched
-placeOf base (Ended outcome) = done Outside
-placeOf base (Ste ste) = fetch ste 8 (done Outside) (λ w. done (At (ste - base)))
+unfoldable pub placeOf : ℕ → Found → Rule Reached
+placeOf base (Ended outcome) = done Nowhere
+placeOf base (Ste ste) = fetch ste 8 (done Nowhere) (λ w. done (At (ste - base)))
 
-unfoldable pub steAtRule : Registers → ℕ → ℕ → Rule Fetched
+unfoldable pub steAtRule : Registers → ℕ → ℕ → Rule Reached
 steAtRule r base stream = andThen (streamRule r stream) (placeOf base)
 
-unfoldable pub steAt : Registers → ℕ → List ℕ → Request → Fetched
+unfoldable pub steAt : Registers → ℕ → List ℕ → Request → Reached
 steAt r base memory request =
-    if refusal1 r then Outside
-    else if refusal2 (extentOf base memory) then Outside
-    else if refusal3 request then Outside
+    if refusal1 r then Nowhere
+    else if refusal2 (extentOf base memory) then Nowhere
+    else if refusal3 request then Nowhere
     else run (extentOf base memory) (2 ^ oasSize r) (bytes memory) (steAtRule r base (request .stream .number)) .answer
 
 -- the first piece of 64 bytes, among the next m from i on: its place in the memory
-unfoldable pub steFrom : ℕ → List Piece → ℕ → ℕ → Fetched
-steFrom base pieces zero i = Outside
+unfoldable pub steFrom : ℕ → List Piece → ℕ → ℕ → Reached
+steFrom base pieces zero i = Nowhere
 steFrom base pieces (suc m) i =
     if eqb (getD pieces i nothing .length) 64 then At (getD pieces i nothing .address - base)
     else steFrom base pieces m (i + 1)
 
 -- the 64 bytes from a place on, or none
-abbrev pub steBytes : List ℕ → Fetched → List ℕ
+abbrev pub steBytes : List ℕ → Reached → List ℕ
 steBytes memory (At place) = take 64 (drop place memory)
-steBytes memory Outside = []
+steBytes memory Nowhere = []
 
 -- an empty part starts where the memory does
-abbrev pub steStart : Fetched → ℕ
+abbrev pub steStart : Reached → ℕ
 steStart (At place) = place
-steStart Outside = 0
+steStart Nowhere = 0
 
 -- part is that very part of memory: its bytes, and its pointer
-pub record SteHanded (memory part : RefT (List ℕ)) (at : Fetched) : Type 0 where
+pub record SteHanded (memory part : RefT (List ℕ)) (at : Reached) : Type 0 where
   pub contents : now part ≡ steBytes (now memory) at
   pub block : ptr part .0 ≡ ptr memory .0
   pub offset : ptr part .1 ≡ ptr memory .1 + steStart at

@@ -9,7 +9,7 @@ use answers::ANSWER_WORDS;
 use answers::Outcome;
 use answers::Pieces;
 use ids::Request;
-use memory_image::Fetched;
+use part::Reached;
 use registers::REGISTER_WORDS;
 use registers::Registers;
 
@@ -110,7 +110,7 @@ pub fn ste_part<'a>(registers: Registers, base: u64, memory: &'a [u8], request: 
     ensures { λ r. ⌜ SteHanded (memory .entry) r (steAt registers base (now (memory .entry)) request) ⌝ }
 {
     let at = part::ste_at(registers, base, memory, request);
-    let Fetched::At(place) = at else {
+    let Reached::At(place) = at else {
         return &memory[0..0];
     };
     let end = place + 64;

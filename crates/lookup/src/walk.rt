@@ -66,8 +66,10 @@ fn from_ste(
 ) -> Outcome
     ensures { λ r. ⌜ Walks base (now (memory .entry)) (fromSte registers substream (stream.Ste ste)) (now (words .entry)) r (now (words .exit)) ⌝ }
 {
-    let Fetched::At(place) = memory_image::fetch(base, memory, ste, 64) else {
-        return Outcome::Abort(answers::F_STE_FETCH);
+    let fetched = memory_image::fetch(base, memory, ste, 64);
+    let Fetched::At(place) = fetched else {
+        let wanted = fetched.wanted();
+        return Outcome::Fault(answers::F_STE_FETCH, wanted);
     };
     answers::push_piece(&mut *words, ste, 64);
     let entry = stream_entry::read_ste(registers, substream, ste, memory, place);
@@ -107,8 +109,10 @@ fn from_cd(
 ) -> Outcome
     ensures { λ r. ⌜ Walks base (now (memory .entry)) (fromCd registers ste (context.Cd cd)) (now (words .entry)) r (now (words .exit)) ⌝ }
 {
-    let Fetched::At(place) = memory_image::fetch(base, memory, cd, 64) else {
-        return Outcome::Abort(answers::F_CD_FETCH);
+    let fetched = memory_image::fetch(base, memory, cd, 64);
+    let Fetched::At(place) = fetched else {
+        let wanted = fetched.wanted();
+        return Outcome::Fault(answers::F_CD_FETCH, wanted);
     };
     answers::push_piece(words, cd, 64);
     context_entry::read_cd(registers, ste, cd, memory, place)

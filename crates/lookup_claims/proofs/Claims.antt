@@ -1,12 +1,15 @@
 -- The claims of specs/Claims.antt, each under its own name.
 -- Assumes: nothing.
-use Prim.Native.Nat.{ℕ, _^_, _≤_}
+use Prim.Native.Nat.{ℕ, zero, suc, _+_, _^_, _≤_, _<_}
 use native.Mathlib.Omega.{arith}
 use mathlib.Core.Path.{_≡_, refl, sym, ap, _∙_}
-use mathlib.Core.List.{List}
+use mathlib.Core.Bool.{Bool, true, false}
+use mathlib.Core.List.{List, []}
 use mathlib.Core.Logic.{_⊎_, inl, inr}
-use lib.ListN.{length}
+use lib.ListN.{length, getD, set}
 use lib.Pow.{pow-mono}
+use lib.Seq.{getD-set-other}
+use Rattle.bit_fields.specs.Choice.{if_then_else_}
 use Rattle.bit_fields.proofs.ChoiceLaws.{alike, either}
 use Rattle.ids.specs.Ids.{refusal3}
 use Rattle.ids.specs.declared.Request.{Request}
@@ -18,24 +21,29 @@ use Rattle.memory_image.specs.Rule.{run, andThen, Agree, Lies}
 use Rattle.memory_image.specs.Words.{bytes, word}
 use Rattle.memory_image.specs.declared.Piece.{Piece}
 use Rattle.memory_image.proofs.Claims.{depends-on-list as rule-depends, listed-lies as rule-lies, listed-few as rule-few, then-gives-and-lists}
-use Rattle.memory_image.proofs.RunLaws.{run-every, run-gives, run-done}
-use Rattle.answers.specs.Layout.{piecesMost}
+use Rattle.memory_image.proofs.RunLaws.{run-every, run-done}
+use Rattle.answers.specs.Layout.{piecesMost, kindAt, valuesAt, countAt, piecesAt}
+use Rattle.answers.specs.Outcome.{fetchEvent}
 use Rattle.answers.specs.Pieces.{none, piecesOf, EachPiece}
-use Rattle.answers.specs.Proper.{ProperAnswer}
+use Rattle.answers.specs.Proper.{properOutcome, ProperAnswer}
 use Rattle.answers.specs.declared.Outcome.{Outcome}
+use Rattle.answers.specs.declared.Outcome.the-variants.{Translate, Bypass, BypassGlobal, Abort, Fault, Quiet, Unserved}
 use Rattle.answers.specs.declared.Pieces.{Pieces}
 use Rattle.answers.proofs.PiecesLaws.{each-pieces, pieces-each, pieces-none, pieces-length}
 use Rattle.answers.proofs.ProperLaws.{Below, proper-pieces}
+use Rattle.answer_words.specs.AnswerWords.{aborted, outcomeOf, piecesIn, listOf, stands}
 use Rattle.answer_words.proofs.AnswerWordsLaws.{outcome-back, list-back, stands-proper}
 use Rattle.stream_table.specs.StreamTable.{streamRule, isLinear, linearAt}
 use Rattle.stream_table.specs.declared.Found.{Found}
 use Rattle.stream_entry.specs.StreamEntry.{steRule, notThere}
 use Rattle.stream_table.proofs.StreamLaws.{stream-unread}
-use Rattle.lookup_claims.specs.Claims.{DependsOnList, ListedLies, DescriptorLong, ListedFew, RefusedExactly, OneAnswer, OnePart, NothingRead, AnswersProper, NoneIsNotZero, KeptIsReadBack}
+use Rattle.lookup_claims.specs.Claims.{DependsOnList, ListedLies, DescriptorLong, ListedFew, RefusedExactly, OneAnswer, OnePart, FaultSaysWhich, NothingRead, AnswersProper, NoneIsNotZero, KeptIsReadBack, AnyAddressStands}
 use Rattle.lookup.specs.Lookup.{fromSte, fromEntry, lookupRule, ruled, refusedWith, answered, lookedUp}
 use Rattle.lookup.specs.declared.Looked.{Looked}
 use Rattle.lookup.specs.declared.Answer.the-variants.{Refused, Is}
-use Rattle.lookup.proofs.RuledLaws.{lookup-few, lookup-every, ProperOutcome, lookup-gives, ruled-few}
+use Rattle.lookup.proofs.RuledLaws.{lookup-few, lookup-every, ruled-few, ruled-proper}
+use Rattle.lookup_claims.specs.Failed.{notFetched}
+use Rattle.lookup_claims.proofs.FaultLaws.{run-ends, Told, lookup-told}
 
 -- the refusals
 pub refused-exactly : (r : Registers) (base : ℕ) (memory : List ℕ) (request : Request) → RefusedExactly r base memory request
@@ -106,6 +114,39 @@ pub one-part : OnePart
 one-part memory x y at first second =
     (first .contents ∙ sym (second .contents), first .block ∙ sym (second .block), first .offset ∙ sym (second .offset))
 
+-- a fault names the one descriptor that wasn't fetched
+module _ (r : Registers) (base : ℕ) (memory : List ℕ) (request : Request) where
+  ruled-told : Told (extentOf base memory) (2 ^ oasSize r) (ruled r base memory request .answer) (notFetched r base memory request)
+  unfolding ruled notFetched
+  ruled-told =
+      run-ends (extentOf base memory) (2 ^ oasSize r) (Told (extentOf base memory) (2 ^ oasSize r)) (bytes memory) (lookupRule r request)
+      (lookup-told (extentOf base memory) (2 ^ oasSize r) r request)
+
+  -- an answer is what the rules give
+  answer-told : (outcome : Outcome) → lookedUp r base memory request .answer ≡ Is outcome → Told (extentOf base memory) (2 ^ oasSize r) outcome (notFetched r base memory request)
+  answer-told outcome =
+      by-cases (λ l. l .answer ≡ Is outcome → Told (extentOf base memory) (2 ^ oasSize r) outcome (notFetched r base memory request)) r base memory request
+      (λ n said. let z : _≡_ {A = ℕ} 0 1 = cc in absurd (omega arith))
+      (λ said. let same : ruled r base memory request .answer ≡ outcome = cc in rw same at ruled-told)
+
+  none-failed :
+      (outcome : Outcome) → ((event address : ℕ) → outcome ≡ Fault event address → ⊥) → (failed : List Piece)
+      → Told (extentOf base memory) (2 ^ oasSize r) outcome failed → failed ≡ []
+  none-failed (Translate t) other failed told = told
+  none-failed (Bypass ste) other failed told = told
+  none-failed BypassGlobal other failed told = told
+  none-failed (Abort event) other failed told = told
+  none-failed (Fault event address) other failed told = absurd (other event address refl)
+  none-failed Quiet other failed told = told
+  none-failed (Unserved n) other failed told = told
+
+  pub fault-says-which : FaultSaysWhich r base memory request
+  fault-says-which =
+      record {
+        named = λ event address said. answer-told (Fault event address) said;
+        unnamed = λ outcome said other. none-failed outcome other (notFetched r base memory request) (answer-told outcome said);
+      }
+
 pub nothing-read : NothingRead
 unfolding ruled lookupRule fromSte
 nothing-read r base memory request unread =
@@ -115,11 +156,11 @@ nothing-read r base memory request unread =
 
 -- what the rules give is proper: each listed piece ends at or below 2^(OAS size), which is at most 2^52
 module _ (r : Registers) (base : ℕ) (memory : List ℕ) (request : Request) where
-  ruled-proper : ProperAnswer (ruled r base memory request .answer) (piecesOf (ruled r base memory request .list))
+  proper-answer : ProperAnswer (ruled r base memory request .answer) (piecesOf (ruled r base memory request .list))
   unfolding ruled piecesOf
-  ruled-proper =
+  proper-answer =
       record {
-        outcome-proper = run-gives e (2 ^ oasSize r) (bytes memory) ProperOutcome (lookupRule r request) (lookup-gives r request);
+        outcome-proper = ruled-proper r base memory request;
         list-proper = proper-pieces (piecesOf l) few ends;
         array-full = pieces-length l;
       }
@@ -155,7 +196,7 @@ answers-proper r base memory request outcome l is =
         let same : Is (ruled r base memory request .answer) ≡ Is outcome = ap (λ (looked : Looked). looked .answer) said in
         let same-outcome : ruled r base memory request .answer ≡ outcome = cc in
         let same-list : piecesOf (ruled r base memory request .list) ≡ l = ap (λ (looked : Looked). looked .list) said in
-        rw (same-outcome, same-list) at (ruled-proper r base memory request)
+        rw (same-outcome, same-list) at (proper-answer r base memory request)
 
 pub none-is-not-zero : NoneIsNotZero
 unfolding lookedUp refusal1 refusal2 refusal3 ruled lookupRule fromSte fromEntry streamRule steRule notThere run andThen fetched word oasSize sizeOf isLinear linearAt
@@ -168,3 +209,39 @@ kept-is-read-back outcome l =
       same-list = list-back outcome l;
       standing = λ proper. stands-proper outcome l (proper .array-full) (proper .outcome-proper) (proper .list-proper);
     }
+
+-- the address's word is that of a value, and the others are read as they were
+module _ (ws : List ℕ) (address : ℕ) where
+  abbrev put : List ℕ
+  put = set ws (valuesAt + 1) address
+
+  as-it-was : (j : ℕ) → (j ≡ valuesAt + 1 → ⊥) → getD put j 0 ≡ getD ws j 0
+  as-it-was j other = getD-set-other ws (valuesAt + 1) j address 0 other
+
+  pieces-as-they-were : (m i : ℕ) → valuesAt + 1 < i → piecesIn put m i ≡ piecesIn ws m i
+  pieces-as-they-were zero i past = refl
+  pieces-as-they-were (suc m) i past =
+      rw (as-it-was i (λ e. omega arith), as-it-was (i + 1) (λ e. omega arith), pieces-as-they-were m (i + 2) (omega arith))
+
+  list-as-it-was : listOf put ≡ listOf ws
+  unfolding listOf
+  list-as-it-was = rw (as-it-was countAt (λ e. omega arith), pieces-as-they-were piecesMost piecesAt (omega arith))
+
+  any-address : (event a b : ℕ) → properOutcome (aborted event a) ≡ properOutcome (aborted event b)
+  unfolding aborted properOutcome
+  any-address event a b = go (fetchEvent event)
+    where
+      go : (t : Bool) → properOutcome (if t then Fault event a else Abort event) ≡ properOutcome (if t then Fault event b else Abort event)
+      go true = refl
+      go false = refl
+
+  outcome-as-proper : getD ws kindAt 0 ≡ 4 → properOutcome (outcomeOf put) ≡ properOutcome (outcomeOf ws)
+  unfolding outcomeOf
+  outcome-as-proper is =
+      rw (as-it-was kindAt (λ e. omega arith), as-it-was valuesAt (λ e. omega arith), is)
+      (any-address (getD ws valuesAt 0) (getD put (valuesAt + 1) 0) (getD ws (valuesAt + 1) 0))
+
+pub any-address-stands : AnyAddressStands
+unfolding stands
+any-address-stands ws address is =
+    rw (as-it-was ws address kindAt (λ e. omega arith), outcome-as-proper ws address is, list-as-it-was ws address)

@@ -1,3 +1,4 @@
 -- The claims of specs/.
+mod FaultLaws
 pub mod Claims
 pub mod Uses

@@ -4,17 +4,20 @@
 --     ListedFew          at most four descriptors are listed, each of 8 or 64 bytes
 --     RefusedExactly     each refusal is given exactly when its row of the table says, in the order 1, 2, 3
 --     OneAnswer, OnePart any two results that a promise allows for one input are equal
+--     FaultSaysWhich     a fault names the address of the one descriptor that wasn't fetched; without a fault every one was
 --     NothingRead        nothing is read where SMMUEN is 0 or the StreamID is out of range
 --     AnswersProper      every answer is proper: its fields have their widths, its numbers are listed, its list is short and below 2^52
 --     NoneIsNotZero      a request without a SubstreamID and one with SubstreamID 0 get different answers, on concrete tables
---     KeptIsReadBack     an outcome and a list are read back from the words that a book keeps, and the words of a lookup's answer stand
+--     KeptIsReadBack     an outcome with its own event, a fault's address with it, and a list are read back from the words that a book keeps,
+--                        and the words of a lookup's answer stand
+--     AnyAddressStands   whether an abort's words stand does not hang on the word of the address
 -- Assumes: nothing.
-use Prim.Native.Nat.{ℕ, _^_, _≤_}
+use Prim.Native.Nat.{ℕ, _+_, _^_, _≤_}
 use mathlib.Core.Path.{_≡_}
 use mathlib.Core.Bool.{true, false}
 use mathlib.Core.List.{List, [], _∷_}
 use mathlib.Core.Logic.{_⊎_}
-use lib.ListN.{length, replicate}
+use lib.ListN.{length, replicate, getD, set}
 use denote.Ref.{RefT, ptr, now}
 use Rattle.ids.specs.Ids.{refusal3}
 use Rattle.ids.specs.declared.Request.{Request}
@@ -28,19 +31,20 @@ use Rattle.memory_image.specs.Extent.{extentOf, refusal2}
 use Rattle.memory_image.specs.Rule.{Agree, Lies}
 use Rattle.memory_image.specs.Words.{bytes}
 use Rattle.memory_image.specs.declared.Piece.{Piece}
-use Rattle.memory_image.specs.declared.Fetched.{Fetched}
-use Rattle.answers.specs.Layout.{piecesMost}
+use Rattle.answers.specs.Layout.{piecesMost, kindAt, valuesAt}
 use Rattle.answers.specs.Pieces.{none, EachPiece}
 use Rattle.answers.specs.Proper.{ProperAnswer}
 use Rattle.answers.specs.declared.Outcome.{Outcome}
-use Rattle.answers.specs.declared.Outcome.the-variants.{Abort, Bypass}
+use Rattle.answers.specs.declared.Outcome.the-variants.{Abort, Bypass, Fault}
 use Rattle.answers.specs.declared.Pieces.{Pieces}
-use Rattle.answer_words.specs.AnswerWords.{wordsOf, outcomeOf, listOf, stands}
+use Rattle.answer_words.specs.AnswerWords.{wordsOf, ownEvent, outcomeOf, listOf, stands}
 use Rattle.stream_table.specs.StreamTable.{log2}
 use Rattle.lookup.specs.Lookup.{lookedUp, refusedWith, answered, ruled}
 use Rattle.lookup.specs.Part.{SteHanded}
 use Rattle.lookup.specs.declared.Looked.{Looked}
+use Rattle.lookup.specs.declared.part.Reached.{Reached}
 use Rattle.lookup.specs.declared.Answer.the-variants.{Is}
+use Rattle.lookup_claims.specs.Failed.{notFetched, Wanted}
 
 abbrev pub DependsOnList : Type 0
 DependsOnList =
@@ -81,8 +85,17 @@ OneAnswer =
 
 abbrev pub OnePart : Type 0
 OnePart =
-    (memory x y : RefT (List ℕ)) (at : Fetched) → SteHanded memory x at → SteHanded memory y at
+    (memory x y : RefT (List ℕ)) (at : Reached) → SteHanded memory x at → SteHanded memory y at
     → (now x ≡ now y) × (ptr x .0 ≡ ptr y .0) × (ptr x .1 ≡ ptr y .1)
+
+-- a lookup that isn't refused: a fault names the one descriptor that wasn't fetched, and where every one was there is no fault
+pub record FaultSaysWhich (r : Registers) (base : ℕ) (memory : List ℕ) (request : Request) : Type 0 where
+  pub named :
+      (event address : ℕ) → lookedUp r base memory request .answer ≡ Is (Fault event address)
+      → Wanted (extentOf base memory) (2 ^ oasSize r) (notFetched r base memory request) address
+  pub unnamed :
+      (outcome : Outcome) → lookedUp r base memory request .answer ≡ Is outcome
+      → ((event address : ℕ) → outcome ≡ Fault event address → ⊥) → notFetched r base memory request ≡ []
 
 abbrev pub NothingRead : Type 0
 NothingRead =
@@ -110,6 +123,9 @@ NoneIsNotZero =
     × (lookedUp smallRegisters 0 smallMemory (streamZero (With (record { number = 0 }))) .answer ≡ Is (Abort 8))
 
 pub record KeptIsReadBack (outcome : Outcome) (l : Pieces) : Type 0 where
-  pub same-outcome : outcomeOf (wordsOf outcome l) ≡ outcome
+  pub same-outcome : ownEvent outcome ≡ true → outcomeOf (wordsOf outcome l) ≡ outcome
   pub same-list : length (l .piece) ≡ piecesMost → listOf (wordsOf outcome l) ≡ l
   pub standing : ProperAnswer outcome l → stands (wordsOf outcome l) ≡ true
+
+abbrev pub AnyAddressStands : Type 0
+AnyAddressStands = (ws : List ℕ) (address : ℕ) → getD ws kindAt 0 ≡ 4 → stands (set ws (valuesAt + 1) address) ≡ stands ws

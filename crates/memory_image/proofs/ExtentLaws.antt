@@ -2,7 +2,8 @@
 --     refused-base, refused-length, refused-end   which clause refuses; the last decides
 --     before, past-end, had                       the ways of a fetch, by where the bytes lie
 --     fetched-lies, lies-fetched                  what is fetched lies in the memory and below the limit, and the other way round
---     at-place, outside                           what the two answers say of the fetch
+--     at-place, outside, wanted-is                what the two answers say of the fetch; the address that was wanted
+--     wanted-at, wanted-outside                   the address, by the cases
 -- Assumes: nothing.
 use Prim.Native.Nat.{ℕ, _+_, _-_, _%_, _≤_, _<_}
 use native.Mathlib.Omega.{arith}
@@ -12,7 +13,7 @@ use borrow.Author.Tests.{eq-eqb, ne-eqb, lt-ltb, le-ltb, le-leb, lt-leb, ltb-tru
 use lib.Dec.{ltb}
 use Rattle.number_laws.proofs.Tests.{both}
 use Rattle.bit_fields.specs.Choice.{if_then_else_}
-use Rattle.memory_image.specs.Extent.{Extent, memoryMost, addressTop, refusal2, fetched, fetchRule}
+use Rattle.memory_image.specs.Extent.{Extent, memoryMost, addressTop, refusal2, fetched, fetchRule, wanted}
 use Rattle.memory_image.specs.Rule.{Lies}
 use Rattle.memory_image.specs.declared.Piece.{Piece}
 use Rattle.memory_image.specs.declared.Fetched.{Fetched}
@@ -63,11 +64,11 @@ and-false true = refl
 and-false false = refl
 
 module _ (e : Extent) (limit address size : ℕ) where
-  pub before : address < e .base → Outside ≡ fetchRule e limit address size
+  pub before : address < e .base → Outside address ≡ fetchRule e limit address size
   unfolding fetchRule fetched
   before is = simp (lt-leb _ _ is)
 
-  pub past-end : e .base + e .length < address + size → Outside ≡ fetchRule e limit address size
+  pub past-end : e .base + e .length < address + size → Outside address ≡ fetchRule e limit address size
   unfolding fetchRule fetched
   past-end is = simp (lt-leb _ _ is, and-false)
 
@@ -84,7 +85,7 @@ pub record Had (e : Extent) (limit address size place : ℕ) : Type 0 where
 
 module _ (e : Extent) (limit address size : ℕ) {said : Fetched} (is : said ≡ fetchRule e limit address size) where
   -- which way the fetch went, by its answer
-  by-test : (b : Bool) → fetched e limit address size ≡ b → said ≡ (if b then At (address - e .base) else Outside)
+  by-test : (b : Bool) → fetched e limit address size ≡ b → said ≡ (if b then At (address - e .base) else Outside address)
   unfolding fetchRule
   by-test b test = rw test at is
 
@@ -101,9 +102,24 @@ module _ (e : Extent) (limit address size : ℕ) {said : Fetched} (is : said ≡
           record { test = test; place-is = place-is; from = from; inside = omega arith; below = lies .below }
       go false test = let went = by-test false test in let z : _≡_ {A = ℕ} 0 1 = cc in absurd (omega arith)
 
-  pub outside : said ≡ Outside → fetched e limit address size ≡ false
+  pub outside : {a : ℕ} → said ≡ Outside a → fetched e limit address size ≡ false
   outside out = go (fetched e limit address size) refl
     where
       go : (b : Bool) → fetched e limit address size ≡ b → fetched e limit address size ≡ false
       go true test = let went = by-test true test in let z : _≡_ {A = ℕ} 0 1 = cc in absurd (omega arith)
       go false test = test
+
+  -- a fetch that fails wanted the address that it was given
+  pub wanted-is : {a got : ℕ} → said ≡ Outside a → got ≡ wanted said → got ≡ address
+  unfolding wanted
+  wanted-is out told =
+      let went = by-test false (outside out) in
+      rw went at told
+
+pub wanted-at : {said : Fetched} {place : ℕ} → said ≡ At place → 0 ≡ wanted said
+unfolding wanted
+wanted-at is = rw is refl
+
+pub wanted-outside : {said : Fetched} {address : ℕ} → said ≡ Outside address → address ≡ wanted said
+unfolding wanted
+wanted-outside is = rw is refl

@@ -4,7 +4,8 @@
 --     refusal2                 a base and a length that are refused with 2
 --     endOf, below             where an extent ends; what of a memory lies below the limit
 --     fetched                  whether the bytes at an address are fetched
---     fetchRule                what a fetch answers: their offset in the memory, or nothing
+--     fetchRule                what a fetch answers: their offset in the memory, or the address that it wanted
+--     wanted                   the address that a fetch which failed wanted
 -- Ours: an address is never cut off at the OAS, so a fetch that ends above it fails.
 -- Assumes: nothing.
 use Prim.Native.Nat.{ℕ, _+_, _-_, _%_, _^_}
@@ -52,4 +53,9 @@ fetched e limit address size =
 unfoldable pub fetchRule : Extent → ℕ → ℕ → ℕ → Fetched
 fetchRule e limit address size =
     if fetched e limit address size then At (address - e .base)
-    else Outside
+    else Outside address
+
+-- 0 of a fetch that did not fail
+unfoldable pub wanted : Fetched → ℕ
+wanted (At place) = 0
+wanted (Outside address) = address

@@ -4,7 +4,7 @@
 ghost use mathlib.Core.Path.{_≡_};
 ghost use Prim.Native.Nat.{_+_, _≤_};
 ghost use lib.ListN.{length};
-ghost use Rattle.memory_image.specs.Extent.{below, endOf, extentOf, fetchRule, refusal2};
+ghost use Rattle.memory_image.specs.Extent.{below, endOf, extentOf, fetchRule, refusal2, wanted};
 ghost use Rattle.memory_image.specs.Words.{bytes, word, wordOf};
 
 // The most bytes that are lent.
@@ -22,10 +22,23 @@ pub struct Piece {
     pub length: u64,
 }
 
-// What a fetch finds: the offset of the descriptor in the memory, or that it is not there to be had.
+// What a fetch finds: the offset of the descriptor in the memory, or that it is not there to be had, with the address that
+// was wanted.
 pub enum Fetched {
     At(usize),
-    Outside,
+    Outside(u64),
+}
+
+impl Fetched {
+    // The address that a fetch which failed wanted; 0 of one that did not fail.
+    pub fn wanted(self) -> u64
+        ensures { λ r. ⌜ r ≡ wanted self ⌝ }
+    {
+        match self {
+            Fetched::At(_) => 0,
+            Fetched::Outside(address) => address,
+        }
+    }
 }
 
 // Refusal 2: base not a multiple of 64, length above 65,536, or base + length above 2^52.
@@ -63,13 +76,13 @@ pub fn fetch(base: u64, memory: &[u8], address: u64, size: u64) -> Fetched
 {
     let len = memory.len() as u64;
     if address < base {
-        return Fetched::Outside;
+        return Fetched::Outside(address);
     }
     if len < size {
-        return Fetched::Outside;
+        return Fetched::Outside(address);
     }
     if len - size < address - base {
-        return Fetched::Outside;
+        return Fetched::Outside(address);
     }
     let place = address - base;
     Fetched::At(place as usize)

@@ -51,7 +51,7 @@ impl State {
         self.says(out, said, b"noticed\n")
     }
 
-    // Writes the report. There is room for the longest, 2,084 bytes, as before every line (`with_room`).
+    // Writes the report. There is room for the longest, 2,860 bytes, as before every line (`with_room`).
     pub fn report(self, book: &[u64; BOOK_WORDS], out: &mut [u8]) -> Self {
         let at = self.waiting;
         if out.len() < at {

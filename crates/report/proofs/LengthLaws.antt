@@ -25,6 +25,7 @@ use Rattle.answers.specs.declared.Outcome.the-variants.{
   Bypass,
   BypassGlobal,
   Abort,
+  Fault,
   Quiet,
   Unserved,
 }
@@ -38,6 +39,7 @@ use Rattle.report_cells.specs.Cells.{
   substreamIn,
   substreamText,
   abortText,
+  addressText,
   outcomeText,
   eventText,
   keptText,
@@ -48,7 +50,7 @@ use Rattle.report_cells.specs.Cells.{
 }
 use Rattle.report_cells.specs.declared.Entry.{Entry}
 use Rattle.report_cells.specs.declared.Line.the-variants as line
-use Rattle.report.specs.Length.{slotDigits, outcomeMost, lineMost, reportMost}
+use Rattle.report.specs.Length.{slotDigits, outcomeAndAddressMost, lineMost, reportMost}
 use Rattle.report.specs.Report.{lineFor, lineAt, linesFrom, reportText}
 
 -- the cells
@@ -73,17 +75,22 @@ unfolding digits
 substream-short Without = omega arith
 substream-short (With s) = omega arith
 
-abort-short : (b : Bool) → length (abortText b) ≤ outcomeMost
+-- an outcome's word, and its address
+abbrev together : Registers → Outcome → ℕ
+together r o = length (outcomeText r o) + length (addressText o)
+
+abort-short : (b : Bool) → length (abortText b) + length (bytes "-") ≤ outcomeAndAddressMost
 unfolding abortText
 abort-short true = omega arith
 abort-short false = omega arith
 
-outcome-short : (r : Registers) (o : Outcome) → length (outcomeText r o) ≤ outcomeMost
-unfolding outcomeText
+outcome-short : (r : Registers) (o : Outcome) → together r o ≤ outcomeAndAddressMost
+unfolding outcomeText addressText digits
 outcome-short r (Translate t) = omega arith
 outcome-short r (Bypass ste) = omega arith
 outcome-short r BypassGlobal = omega arith
 outcome-short r (Abort event) = abort-short (recorded r event)
+outcome-short r (Fault event address) = omega arith
 outcome-short r Quiet = omega arith
 outcome-short r (Unserved n) = omega arith
 
@@ -93,6 +100,7 @@ event-short (Translate t) = omega arith
 event-short (Bypass ste) = omega arith
 event-short BypassGlobal = omega arith
 event-short (Abort event) = omega arith
+event-short (Fault event address) = omega arith
 event-short Quiet = omega arith
 event-short (Unserved n) = decimal-short n
 
@@ -108,7 +116,7 @@ kept-short e few =
     let substream = substream-short (e .request .substream) in
     let outcome = outcome-short (e .registers) (e .outcome) in
     let event = event-short (e .outcome) in
-    rw (cell-long, cell-long, cell-long, cell-long, cell-long) (omega arith)
+    rw (cell-long, cell-long, cell-long, cell-long, cell-long, cell-long) (omega arith)
 
 -- an empty slot has no line
 nothing-short : length (lineText line.Nothing) ≤ lineMost

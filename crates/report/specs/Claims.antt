@@ -2,7 +2,7 @@
 --     OneReport         any two results that the promise allows for one input are equal, and so are the buffers
 --     LaterBytesStay    the bytes after the text are as they were
 --     TextIsThere       the length is the text's, and the first bytes are the text
---     ReportFits        a report is never refused with 8 where its buffer has reportMost bytes: 2,084
+--     ReportFits        a report is never refused with 8 where its buffer has reportMost bytes: 2,860
 -- Assumes: nothing.
 use Prim.Native.Nat.{ℕ, _≤_, _<_}
 use mathlib.Core.Path.{_≡_}

@@ -1,11 +1,13 @@
 -- The cells by their lines and columns, one law for each way out of the code.
---     header-0 .. header-4                         the columns' names
---     kept-0 .. kept-4                             a held slot's cells
+--     header-0 .. header-5                         the columns' names
+--     kept-0 .. kept-5                             a held slot's cells
 --     stream-spelled, without-spelled, with-spelled     the request
 --     translates .. not-served                     the outcome's word
 --     aborts, recorded-spelled, unrecorded-spelled     an abort
---     event-spelled, case-spelled                  the event; the unserved number
+--     faults                                       a failed fetch
+--     event-spelled, fault-spelled, case-spelled   the event; the unserved number
 --     translates-without .. is-quiet-without       the outcomes that have neither
+--     address-spelled                              the address that a failed fetch wanted, or none
 --     of-nothing, of-header, of-kept               a line's cell
 --     columns-nothing, columns-header, columns-kept    how many there are
 --     ends-line, ends-cell                         what follows a cell
@@ -23,7 +25,7 @@ use Rattle.registers.specs.declared.Registers.{Registers}
 use Rattle.answers.specs.Outcome.{recorded}
 use Rattle.answers.specs.declared.Translation.{Translation}
 use Rattle.answers.specs.declared.Outcome.{Outcome}
-use Rattle.answers.specs.declared.Outcome.the-variants.{Translate, Bypass, BypassGlobal, Abort, Quiet, Unserved}
+use Rattle.answers.specs.declared.Outcome.the-variants.{Translate, Bypass, BypassGlobal, Abort, Fault, Quiet, Unserved}
 use Rattle.report_cells.specs.Text.{Spells, bytes, decimalText, slotText, hexLower, hexUpper}
 use Rattle.report_cells.specs.Cells.{
   streamDigits,
@@ -31,6 +33,7 @@ use Rattle.report_cells.specs.Cells.{
   eventDigits,
   columns,
   abortText,
+  addressText,
   cellText,
   columnsOf,
   endingOf,
@@ -64,11 +67,15 @@ module _ {cell : Cell} (column : ℕ) where
   unfolding headerText
   header-3 is = spells-as (rw is)
 
-  pub header-4 :
-      (column ≡ 0 → ⊥) → (column ≡ 1 → ⊥) → (column ≡ 2 → ⊥) → (column ≡ 3 → ⊥)
-      → Spells cell (bytes "event") → Spells cell (headerText column)
+  pub header-4 : column ≡ 4 → Spells cell (bytes "event") → Spells cell (headerText column)
   unfolding headerText
-  header-4 n0 n1 n2 n3 = spells-as (simp (ne-eqb _ _ n0, ne-eqb _ _ n1, ne-eqb _ _ n2, ne-eqb _ _ n3))
+  header-4 is = spells-as (rw is)
+
+  pub header-5 :
+      (column ≡ 0 → ⊥) → (column ≡ 1 → ⊥) → (column ≡ 2 → ⊥) → (column ≡ 3 → ⊥) → (column ≡ 4 → ⊥)
+      → Spells cell (bytes "address") → Spells cell (headerText column)
+  unfolding headerText
+  header-5 n0 n1 n2 n3 n4 = spells-as (simp (ne-eqb _ _ n0, ne-eqb _ _ n1, ne-eqb _ _ n2, ne-eqb _ _ n3, ne-eqb _ _ n4))
 
 module _ {cell : Cell} (e : Entry) (column : ℕ) where
   pub kept-0 : column ≡ 0 → Spells cell (slotText (e .slot)) → Spells cell (keptText e column)
@@ -87,11 +94,15 @@ module _ {cell : Cell} (e : Entry) (column : ℕ) where
   unfolding keptText
   kept-3 is = spells-as (rw is)
 
-  pub kept-4 :
-      (column ≡ 0 → ⊥) → (column ≡ 1 → ⊥) → (column ≡ 2 → ⊥) → (column ≡ 3 → ⊥)
-      → Spells cell (eventText (e .outcome)) → Spells cell (keptText e column)
+  pub kept-4 : column ≡ 4 → Spells cell (eventText (e .outcome)) → Spells cell (keptText e column)
   unfolding keptText
-  kept-4 n0 n1 n2 n3 = spells-as (simp (ne-eqb _ _ n0, ne-eqb _ _ n1, ne-eqb _ _ n2, ne-eqb _ _ n3))
+  kept-4 is = spells-as (rw is)
+
+  pub kept-5 :
+      (column ≡ 0 → ⊥) → (column ≡ 1 → ⊥) → (column ≡ 2 → ⊥) → (column ≡ 3 → ⊥) → (column ≡ 4 → ⊥)
+      → Spells cell (addressText (e .outcome)) → Spells cell (keptText e column)
+  unfolding keptText
+  kept-5 n0 n1 n2 n3 n4 = spells-as (simp (ne-eqb _ _ n0, ne-eqb _ _ n1, ne-eqb _ _ n2, ne-eqb _ _ n3, ne-eqb _ _ n4))
 
 module _ {cell : Cell} (request : Request) where
   pub stream-spelled : Spells cell (hexLower streamDigits (request .stream .number)) → Spells cell (streamText request)
@@ -132,6 +143,10 @@ module _ {cell : Cell} (r : Registers) (o : Outcome) where
   unfolding outcomeText
   aborts is said = spells-as (rw (is, said))
 
+  pub faults : {event address : ℕ} → o ≡ Fault event address → Spells cell (bytes "abort") → Spells cell (outcomeText r o)
+  unfolding outcomeText
+  faults is = spells-as (rw is)
+
 module _ {cell : Cell} {b : Bool} where
   pub recorded-spelled : b ≡ true → Spells cell (bytes "abort") → Spells cell (abortText b)
   unfolding abortText
@@ -146,6 +161,10 @@ module _ (o : Outcome) where
     pub event-spelled : {event : ℕ} → o ≡ Abort event → Spells cell (hexUpper eventDigits event) → Spells cell (eventText o)
     unfolding eventText
     event-spelled is = spells-as (rw is)
+
+    pub fault-spelled : {event address : ℕ} → o ≡ Fault event address → Spells cell (hexUpper eventDigits event) → Spells cell (eventText o)
+    unfolding eventText
+    fault-spelled is = spells-as (rw is)
 
     pub case-spelled : {n : ℕ} → o ≡ Unserved n → Spells cell (decimalText n) → Spells cell (eventText o)
     unfolding eventText
@@ -166,6 +185,10 @@ module _ (o : Outcome) where
     pub is-quiet-without : o ≡ Quiet → Spells cell (bytes "-") → Spells cell (eventText o)
     unfolding eventText
     is-quiet-without is = spells-as (rw is)
+
+    -- what stands there for an outcome stands there for one that is equal
+    pub address-spelled : {p : Outcome} → o ≡ p → Spells cell (addressText p) → Spells cell (addressText o)
+    address-spelled is = spells-as (rw is)
 
 module _ (line : Line) where
   module _ {cell : Cell} (column : ℕ) where

@@ -1,6 +1,6 @@
 -- The report's cells and lines (RULES, "The book": the report).
 --     lineText       a line: its cells parted by one tab, and a line feed: start here
---     cellText       a line's cell in a column: 0 slot, 1 stream, 2 substream, 3 outcome, 4 event
+--     cellText       a line's cell in a column: 0 slot, 1 stream, 2 substream, 3 outcome, 4 event, 5 address
 -- Assumes: nothing.
 use Prim.Native.Nat.{ℕ, zero, suc, _+_, _-_}
 use mathlib.Core.Bool.{Bool, true, false}
@@ -13,13 +13,13 @@ use Rattle.ids.specs.declared.Substream.the-variants.{Without, With}
 use Rattle.registers.specs.declared.Registers.{Registers}
 use Rattle.answers.specs.Outcome.{recorded}
 use Rattle.answers.specs.declared.Outcome.{Outcome}
-use Rattle.answers.specs.declared.Outcome.the-variants.{Translate, Bypass, BypassGlobal, Abort, Quiet, Unserved}
+use Rattle.answers.specs.declared.Outcome.the-variants.{Translate, Bypass, BypassGlobal, Abort, Fault, Quiet, Unserved}
 use Rattle.report_cells.specs.Text.{bytes, decimalText, slotText, hexLower, hexUpper}
 use Rattle.report_cells.specs.declared.Entry.{Entry}
 use Rattle.report_cells.specs.declared.Line.{Line}
 use Rattle.report_cells.specs.declared.Line.the-variants.{Nothing, Header, Kept}
 
--- the digits of a StreamID, a SubstreamID and an event
+-- the digits of a StreamID, a SubstreamID, an event and an address
 abbrev pub streamDigits : ℕ
 streamDigits = 8
 
@@ -29,9 +29,12 @@ substreamDigits = 5
 abbrev pub eventDigits : ℕ
 eventDigits = 2
 
+abbrev pub addressDigits : ℕ
+addressDigits = 16
+
 -- how many cells a line has
 abbrev pub columns : ℕ
-columns = 5
+columns = 6
 
 unfoldable pub headerText : ℕ → List ℕ
 headerText column =
@@ -39,7 +42,8 @@ headerText column =
     else if eqb column 1 then bytes "stream"
     else if eqb column 2 then bytes "substream"
     else if eqb column 3 then bytes "outcome"
-    else bytes "event"
+    else if eqb column 4 then bytes "event"
+    else bytes "address"
 
 unfoldable pub streamText : Request → List ℕ
 streamText request = hexLower streamDigits (request .stream .number)
@@ -55,11 +59,13 @@ unfoldable pub abortText : Bool → List ℕ
 abortText true = bytes "abort"
 abortText false = bytes "unrecorded"
 
+-- the event of a failed fetch is always recorded
 unfoldable pub outcomeText : Registers → Outcome → List ℕ
 outcomeText r (Translate t) = bytes "translate"
 outcomeText r (Bypass ste) = bytes "bypass"
 outcomeText r BypassGlobal = bytes "bypass"
 outcomeText r (Abort event) = abortText (recorded r event)
+outcomeText r (Fault event address) = bytes "abort"
 outcomeText r Quiet = bytes "quiet"
 outcomeText r (Unserved n) = bytes "unserved"
 
@@ -68,8 +74,19 @@ eventText (Translate t) = bytes "-"
 eventText (Bypass ste) = bytes "-"
 eventText BypassGlobal = bytes "-"
 eventText (Abort event) = hexUpper eventDigits event
+eventText (Fault event address) = hexUpper eventDigits event
 eventText Quiet = bytes "-"
 eventText (Unserved n) = decimalText n
+
+-- the address that a failed fetch wanted
+unfoldable pub addressText : Outcome → List ℕ
+addressText (Translate t) = bytes "-"
+addressText (Bypass ste) = bytes "-"
+addressText BypassGlobal = bytes "-"
+addressText (Abort event) = bytes "-"
+addressText (Fault event address) = hexLower addressDigits address
+addressText Quiet = bytes "-"
+addressText (Unserved n) = bytes "-"
 
 unfoldable pub keptText : Entry → ℕ → List ℕ
 keptText e column =
@@ -77,7 +94,8 @@ keptText e column =
     else if eqb column 1 then streamText (e .request)
     else if eqb column 2 then substreamText (e .request)
     else if eqb column 3 then outcomeText (e .registers) (e .outcome)
-    else eventText (e .outcome)
+    else if eqb column 4 then eventText (e .outcome)
+    else addressText (e .outcome)
 
 unfoldable pub cellText : Line → ℕ → List ℕ
 cellText Nothing column = []

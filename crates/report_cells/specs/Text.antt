@@ -48,7 +48,7 @@ slotText n =
 
 -- the most bytes that a cell has
 abbrev pub cellMost : ℕ
-cellMost = 10
+cellMost = 16
 
 -- the first bytes of a cell, as many as it counts, are the text
 pub record Spells (cell : Cell) (text : List ℕ) : Type 0 where

@@ -11,10 +11,10 @@ mod cells;
 mod text;
 
 // The most bytes that a cell has.
-pub const CELL_MOST: usize = 10;
+pub const CELL_MOST: usize = 16;
 
 // How many cells a line has.
-const COLUMNS: usize = 5;
+const COLUMNS: usize = 6;
 
 // The text of a cell: the first `count` of the bytes.
 pub struct Cell {
@@ -79,6 +79,7 @@ fn kept(entry: Entry, column: usize) -> Cell
         1 => cells::stream(entry.request),
         2 => cells::substream(entry.request),
         3 => cells::kind(entry.registers, outcome),
-        _ => cells::event(outcome),
+        4 => cells::event(outcome),
+        _ => cells::address(outcome),
     }
 }

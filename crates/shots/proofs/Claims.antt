@@ -19,12 +19,13 @@ use Rattle.stream_table.specs.StreamTable.{streamRule, isLinear, splitOf, l1std
 use Rattle.stream_entry.specs.StreamEntry.{steRule, notThere, stage1Rule, badStage1, withId}
 use Rattle.context_table.specs.ContextTable.{contextRule, leafBits, twoLevelRule as cdTwoLevelRule, l1cdRule}
 use Rattle.context_entry.specs.ContextEntry.{cdRule, effectiveIps}
-use Rattle.lookup.specs.Lookup.{lookupRule, fromSte, fromEntry, fromCd, ruled, answered, lookedUp}
+use Rattle.lookup.specs.Lookup.{lookupRule, fromSte, fromEntry, fromCd, ruled, answered}
 use Rattle.lookup_claims.proofs.Claims.{refused-exactly}
 use Rattle.placed.specs.From.{valuesFrom, tab}
 use Rattle.placed.proofs.FromLaws.{values-length}
-use Rattle.shots.specs.Shots.{Shot, shots, byteOf, whole, clip, expected}
-use Rattle.shots.specs.Claims.{EachShot, Right, AllShots, RealShots}
+use Rattle.shots.specs.Shots.{Shot, shots, byteOf, whole, clip}
+use Rattle.shots.specs.Faults.{faults}
+use Rattle.shots.specs.Claims.{EachShot, Right, AllShots, AllFaults, Real, RealShots, RealFaults}
 
 pub all-shots : AllShots
 unfolding run fetched word lookupRule andThen fromSte fromEntry fromCd streamRule isLinear splitOf l1stdAt stesHeld leafRule twoLevelRule steRule notThere stage1Rule badStage1 withId contextRule leafBits cdTwoLevelRule l1cdRule cdRule effectiveIps sizeOf oasSize refusal1 refusal3
@@ -72,6 +73,34 @@ all-shots = (
   ),
 )
 
+pub all-faults : AllFaults
+unfolding run fetched word lookupRule andThen fromSte fromEntry fromCd streamRule isLinear splitOf l1stdAt stesHeld leafRule twoLevelRule steRule notThere stage1Rule badStage1 withId contextRule leafBits cdTwoLevelRule l1cdRule cdRule effectiveIps sizeOf oasSize refusal1 refusal3
+all-faults = (
+  record { says = refl; registers-taken = refl; request-taken = refl },
+  (
+    record { says = refl; registers-taken = refl; request-taken = refl },
+    (
+      record { says = refl; registers-taken = refl; request-taken = refl },
+      (
+        record { says = refl; registers-taken = refl; request-taken = refl },
+        (
+          record { says = refl; registers-taken = refl; request-taken = refl },
+          (
+            record { says = refl; registers-taken = refl; request-taken = refl },
+            (
+              record { says = refl; registers-taken = refl; request-taken = refl },
+              (
+                record { says = refl; registers-taken = refl; request-taken = refl },
+                tt,
+              ),
+            ),
+          ),
+        ),
+      ),
+    ),
+  ),
+)
+
 -- a real memory from a function: its bytes are the function's, up to its end
 pub tab-length : (n : ℕ) (f : ℕ → ℕ) → length (tab n f) ≡ n
 tab-length n f = values-length f n 0
@@ -101,19 +130,19 @@ pub real-run :
 unfolding ruled
 real-run r memory f request size same = rw (size, same)
 
-pub real :
-    (s : Shot) → Right s → lookedUp (s .registers) 0 (tab 0x10000 (byteOf (s .memory))) (s .request) ≡ answered (expected s)
+pub real : (s : Shot) → Right s → Real s
 real s right =
     let memory = tab 0x10000 (byteOf (s .memory)) in
     let size = tab-length 0x10000 (byteOf (s .memory)) in
     refused-exactly (s .registers) 0 memory (s .request) .answer (right .registers-taken) (extent-taken memory size) (right .request-taken)
     ∙ ap answered (real-run (s .registers) memory _ (s .request) size (bytes-are 0x10000 (byteOf (s .memory))) ∙ right .says)
 
-each-real :
-    (ss : List Shot) → EachShot Right ss
-    → EachShot (λ s. lookedUp (s .registers) 0 (tab 0x10000 (byteOf (s .memory))) (s .request) ≡ answered (expected s)) ss
+each-real : (ss : List Shot) → EachShot Right ss → EachShot Real ss
 each-real [] all = tt
 each-real (s ∷ ss) all = (real s (all .0), each-real ss (all .1))
 
 pub real-shots : RealShots
 real-shots = each-real shots all-shots
+
+pub real-faults : RealFaults
+real-faults = each-real faults all-faults

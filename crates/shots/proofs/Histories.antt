@@ -7,7 +7,7 @@ use mathlib.Core.Path.{_≡_, refl, sym, ap, _∙_}
 use mathlib.Core.Bool.{Bool, true, false, not, _&&_, _||_}
 use mathlib.Core.List.{List, [], _∷_}
 use mathlib.Core.Logic.{inr}
-use borrow.Author.Tests.{eqb-true, eq-eqb, ne-eqb, lt-ltb, le-ltb}
+use borrow.Author.Tests.{eqb-true, eq-eqb, ne-eqb, le-leb, lt-ltb, le-ltb}
 use lib.Dec.{eqb, leb, ltb}
 use lib.ListN.{length, getD}
 use Rattle.bit_fields.specs.Choice.{if_then_else_}
@@ -25,10 +25,10 @@ use Rattle.memory_image.specs.Extent.{Extent, addressTop, refusal2, fetched}
 use Rattle.memory_image.specs.Rule.{Ran, run, andThen}
 use Rattle.memory_image.specs.Words.{word}
 use Rattle.answers.specs.Pieces.{piecesOf}
-use Rattle.answers.specs.Outcome.{recorded}
+use Rattle.answers.specs.Outcome.{fSteFetch, fetchEvent, recorded}
 use Rattle.answers.specs.declared.Outcome.{Outcome}
-use Rattle.answers.specs.declared.Outcome.the-variants.{Abort, Bypass, Quiet}
-use Rattle.answer_words.specs.AnswerWords.{laidOut, wordsOf, outcomeOf, listOf}
+use Rattle.answers.specs.declared.Outcome.the-variants.{Abort, Bypass, Fault, Quiet}
+use Rattle.answer_words.specs.AnswerWords.{laidOut, wordsOf, aborted, outcomeOf, listOf}
 use Rattle.stream_table.specs.StreamTable.{streamRule, isLinear, splitOf, l1stdAt, stesHeld, leafRule, twoLevelRule}
 use Rattle.stream_entry.specs.StreamEntry.{steRule, notThere, stage1Rule, badStage1, withId}
 use Rattle.context_table.specs.ContextTable.{contextRule, leafBits, twoLevelRule as cdTwoLevelRule, l1cdRule}
@@ -45,7 +45,7 @@ use Rattle.book.specs.declared.Reply.the-variants as reply
 use Rattle.book.specs.declared.Said.{Said}
 use Rattle.book.specs.declared.Said.the-variants as said
 use Rattle.report_cells.specs.Text.{decimalText, slotText, digits}
-use Rattle.report_cells.specs.Cells.{lineText, cellsFrom, columnsOf, endingOf, cellText, headerText, keptText, streamText, substreamText, outcomeText, abortText, eventText}
+use Rattle.report_cells.specs.Cells.{lineText, cellsFrom, columnsOf, endingOf, cellText, headerText, keptText, streamText, substreamText, outcomeText, abortText, eventText, addressText}
 use Rattle.report.specs.Report.{reportText, linesFrom, lineAt, lineFor}
 use Rattle.report.proofs.Claims.{text-is-there, later-bytes-stay}
 use Rattle.book_history.specs.History.{State, Begun, Narrow, edit, notice, ask, start, within, differs, today, holding, editing, handing, noticing, asking, opening}
@@ -60,8 +60,8 @@ use Rattle.book_history.proofs.Claims.{never-malformed, header-stays, still-goo
 use Rattle.book_history.proofs.Uses.{never-refused-seven}
 use Rattle.shots.specs.Shots.{Shot, plain, stage1, figure, piece, translates, byteOf, whole}
 use Rattle.shots.specs.Claims.{Right}
-use Rattle.shots.specs.Histories.{memoryOf, benchMemory, plainly, key, Keys, OneAsked, TwoAsked, BothStruck, SlotUsedAgain, FullAndKept, substreamed, third, fourth, Staged, ThreeAndFour, says, StaleCaught, beside, EdgesLeaveIt, AboveNeverCounts, sample, SampleReport}
-use Rattle.shots.proofs.Claims.{tab-length, tab-at, real-shots, real}
+use Rattle.shots.specs.Histories.{memoryOf, benchMemory, plainly, key, Keys, OneAskedIn, OneAsked, TwoAsked, BothStruck, SlotUsedAgain, FullAndKept, substreamed, third, fourth, Staged, ThreeAndFour, says, Caught, StaleCaught, pastTheEnd, wants, AddressCaught, beside, EdgesLeaveIt, AboveNeverCounts, sample, SampleReport}
+use Rattle.shots.proofs.Claims.{tab-length, tab-at, real-shots, real-faults, real}
 
 -- words that a book has after some history
 record Booked (ws : List ℕ) : Type 0 where
@@ -342,25 +342,26 @@ stage1-narrow : Narrow stage1
 stage1-narrow = record { each = λ j few. narrow-all stage1 refl j }
 
 -- a book that was opened, and asked for one stream, then for another: its words
-module _ (n i : ℕ) (shot : Ran Outcome) (small : n < 2 ^ 32) (ready : Ready plain 2 fresh (plainly n) 0)
-    (is : lookedUp plain 0 benchMemory (plainly n) ≡ answered shot) (ws : List ℕ) (one : OneAsked n ws) where
+module _ (bs : List (ℕ × ℕ)) (n : ℕ) (small : n < 2 ^ 32) (ws : List ℕ) (one : OneAskedIn bs n ws) where
   booked-one : Booked ws
   booked-one =
-      asked-booked (opened-booked plain plain-narrow 2 _ _ (byteOf figure) (one .opens)) 0 benchMemory (plainly n) _ _ small (one .asks)
+      asked-booked (opened-booked plain plain-narrow 2 _ _ (byteOf bs) (one .opens)) 0 (memoryOf bs) (plainly n) _ _ small (one .asks)
 
-  words-one : ws ≡ holds fresh 0 (plainly n) shot
+  words-one :
+      (shot : Ran Outcome) → Ready plain 2 fresh (plainly n) 0 → lookedUp plain 0 (memoryOf bs) (plainly n) ≡ answered shot
+      → ws ≡ holds fresh 0 (plainly n) shot
   unfolding fresh
-  words-one =
-      let opened = opened-is plain plain-narrow 2 _ _ (byteOf figure) (one .opens) (computed .plain-taken) in
-      let book : Booked fresh = rw opened at (opened-booked plain plain-narrow 2 _ _ (byteOf figure) (one .opens)) in
-      let asks : Asks fresh 0 benchMemory (plainly n) (one .told) ws = rw opened at (one .asks) in
-      asked-is plain 2 book figure (plainly n) 0 shot ready (omega arith) is (one .told) ws asks
+  words-one shot ready is =
+      let opened = opened-is plain plain-narrow 2 _ _ (byteOf bs) (one .opens) (computed .plain-taken) in
+      let book : Booked fresh = rw opened at (opened-booked plain plain-narrow 2 _ _ (byteOf bs) (one .opens)) in
+      let asks : Asks fresh 0 (memoryOf bs) (plainly n) (one .told) ws = rw opened at (one .asks) in
+      asked-is plain 2 book bs (plainly n) 0 shot ready (omega arith) is (one .told) ws asks
 
 booked-188 : (ws : List ℕ) → OneAsked 188 ws → Booked ws
-booked-188 = booked-one 188 0 shot-188 (omega arith) (computed .for-188) looked-188
+booked-188 = booked-one figure 188 (omega arith)
 
-booked-256 : (ws : List ℕ) → OneAsked 256 ws → Booked ws
-booked-256 = booked-one 256 0 shot-256 (omega arith) (computed .for-256-alone) looked-256
+booked-256 : (bs : List (ℕ × ℕ)) (ws : List ℕ) → OneAskedIn bs 256 ws → Booked ws
+booked-256 bs = booked-one bs 256 (omega arith)
 
 -- 188 and 256
 module _ (ws : List ℕ) (two : TwoAsked 188 256 ws) where
@@ -370,7 +371,7 @@ module _ (ws : List ℕ) (two : TwoAsked 188 256 ws) where
   two-words : ws ≡ held2
   unfolding held1 held2
   two-words =
-      let first : two .first ≡ held1 = words-one 188 0 shot-188 (omega arith) (computed .for-188) looked-188 (two .first) (two .one) in
+      let first : two .first ≡ held1 = words-one figure 188 (omega arith) (two .first) (two .one) shot-188 (computed .for-188) looked-188 in
       let booked : Booked held1 = rw first at (booked-188 (two .first) (two .one)) in
       let asks : Asks held1 0 benchMemory (plainly 256) (two .told) ws = rw first at (two .asks) in
       asked-is plain 2 booked figure (plainly 256) 1 shot-256 (computed .for-256) (omega arith) looked-256 (two .told) ws asks
@@ -570,85 +571,98 @@ calm-asked bs s calm told after = go told
     go (reply.NotKept outcome) = handed
 
 -- what slot 0 holds after an ask for 256
-record Holds (words : List ℕ) : Type 0 where
+record Holds (shot : Ran Outcome) (words : List ℕ) : Type 0 where
   key-is : keyAt words 0 ≡ key 256
   below : 0 < slotsOf words
   request-is : unpacked (keyAt words 0 - 1) ≡ Is (plainly 256)
-  list-is : listOf (blockAt words 0) ≡ piecesOf (shot-256 .list)
-  told-is : record { answer = looked.Is (outcomeOf (blockAt words 0)); list = listOf (blockAt words 0) } ≡ answered shot-256
+  list-is : listOf (blockAt words 0) ≡ piecesOf (shot .list)
+  told-is : record { answer = looked.Is (outcomeOf (blockAt words 0)); list = listOf (blockAt words 0) } ≡ answered shot
 
-holds-alone : Holds alone
+holds-alone : Holds shot-256 alone
 unfolding openedWith blockAt valuesFrom copied packed unpacked laidOut wordsOf outcomeOf listOf piecesOf shot-256 fresh alone
 holds-alone = record { key-is = refl; below = omega arith; request-is = refl; list-is = refl; told-is = refl }
 
+holds-away : Holds (wants 0x12f00) (holds fresh 0 (plainly 256) (wants 0x12f00))
+unfolding openedWith blockAt valuesFrom copied packed unpacked laidOut wordsOf outcomeOf aborted fetchEvent listOf piecesOf fresh
+holds-away = record { key-is = refl; below = omega arith; request-is = refl; list-is = refl; told-is = refl }
+
 -- 256 was asked, and then its tables are written to
-module _ (ws : List ℕ) (one : OneAsked 256 ws) where
+module _ (bs : List (ℕ × ℕ)) (ws : List ℕ) (one : OneAskedIn bs 256 ws) where
   asked-bench : State
-  asked-bench = asking (one .told .reply) (opening said.Done (bench-before plain plain-narrow 2 (one .before) (one .opened) (byteOf figure) (one .opens)) plain whole (one .opened)) 0 benchMemory ws
+  asked-bench = asking (one .told .reply) (opening said.Done (bench-before plain plain-narrow 2 (one .before) (one .opened) (byteOf bs) (one .opens)) plain whole (one .opened)) 0 (memoryOf bs) ws
 
   asked-begun : Begun asked-bench
   unfolding asked-bench bench-before
-  asked-begun = later (opened-begun plain plain-narrow 2 _ _ (byteOf figure) (one .opens)) (ask 0 benchMemory (plainly 256) (one .told) ws (omega arith) (one .asks))
+  asked-begun = later (opened-begun plain plain-narrow 2 _ _ (byteOf bs) (one .opens)) (ask 0 (memoryOf bs) (plainly 256) (one .told) ws (omega arith) (one .asks))
 
-  asked-calm : Calm figure asked-bench
+  asked-calm : Calm bs asked-bench
   unfolding asked-bench bench-before
-  asked-calm = calm-asked figure _ (record { bytes = λ a. refl; clean = λ a. refl }) (one .told .reply) ws
+  asked-calm = calm-asked bs _ (record { bytes = λ a. refl; clean = λ a. refl }) (one .told .reply) ws
 
   asked-there : (asked-bench .words ≡ ws) × (asked-bench .registers ≡ plain) × (asked-bench .extent ≡ whole)
   unfolding asked-bench bench-before
   asked-there =
-      let by = asked-by (one .told .reply) (opening said.Done (bench-before plain plain-narrow 2 (one .before) (one .opened) (byteOf figure) (one .opens)) plain whole (one .opened)) 0 benchMemory ws in
+      let by = asked-by (one .told .reply) (opening said.Done (bench-before plain plain-narrow 2 (one .before) (one .opened) (byteOf bs) (one .opens)) plain whole (one .opened)) 0 (memoryOf bs) ws in
       (by .words, by .registers, by .extent)
 
-  -- the STE is edited, and the edit is noticed: nothing lacks its notice
-  edited-bench : State
-  edited-bench = editing asked-bench (λ a. eqb 0x2f00 a) (λ a. 0x01)
+  -- a byte of the tables is edited, and the edit is noticed: nothing lacks its notice
+  module _ (at byte : ℕ) where
+    edited-bench : State
+    edited-bench = editing asked-bench (λ a. eqb at a) (λ a. byte)
 
-  noticed-bench : List ℕ → State
-  noticed-bench struck = noticing said.Done edited-bench 0x2f00 1 struck
+    noticed-bench : List ℕ → State
+    noticed-bench struck = noticing said.Done edited-bench at 1 struck
 
-  all-noticed : (struck : List ℕ) (a : ℕ) → handing (noticed-bench struck) 0 (memoryOf ((0x2f00, 0x01) ∷ figure)) .unnoticed a ≡ false
-  unfolding edited-bench noticed-bench
-  all-noticed struck a =
-      rw (nothing-differs ((0x2f00, 0x01) ∷ figure) (noticed-bench struck) (λ b. rw (asked-calm .bytes b)) a) (go (eqb 0x2f00 a) refl)
-    where
-      go : (t : Bool) → eqb 0x2f00 a ≡ t → (if within 0x2f00 1 a then false else eqb 0x2f00 a || asked-bench .unnoticed a) ≡ false
-      go true e = let is : 0x2f00 ≡ a = eqb-true _ _ e in rw (← is)
-      go false e = rw (e, asked-calm .clean a) (same (within 0x2f00 1 a))
-        where
-          same : (t : Bool) → (if t then false else false) ≡ false
-          same true = refl
-          same false = refl
+    all-noticed : (struck : List ℕ) (a : ℕ) → handing (noticed-bench struck) 0 (memoryOf ((at, byte) ∷ bs)) .unnoticed a ≡ false
+    unfolding edited-bench noticed-bench
+    all-noticed struck a =
+        rw (nothing-differs ((at, byte) ∷ bs) (noticed-bench struck) (λ b. rw (asked-calm .bytes b)) a) (go (eqb at a) refl)
+      where
+        go : (t : Bool) → eqb at a ≡ t → (if within at 1 a then false else eqb at a || asked-bench .unnoticed a) ≡ false
+        go true e =
+            let is : at ≡ a = eqb-true _ _ e in
+            simp (le-leb at a (omega arith), lt-ltb a (at + 1) (omega arith))
+        go false e = rw (e, asked-calm .clean a) (same (within at 1 a))
+          where
+            same : (t : Bool) → (if t then false else false) ≡ false
+            same true = refl
+            same false = refl
 
+    caught : at < addressTop → {now : Looked} → lookedUp plain 0 (memoryOf ((at, byte) ∷ bs)) (plainly 256) ≡ now → Caught bs ws at byte now
+    unfolding refusal3 edited-bench noticed-bench
+    caught low looked-now told struck noticed answer after promise =
+        let there = asked-there in
+        let booked = booked-256 bs ws one in
+        let done : Noticed ws at 1 said.Done struck = rw (taken booked at 1 told struck (omega arith) noticed) at noticed in
+        let done′ : Noticed (asked-bench .words) at 1 said.Done struck = rw (there .0) done in
+        let begun : Begun (noticed-bench struck) = later (later asked-begun (edit (λ a. eqb at a) (λ a. byte))) (notice at 1 said.Done struck done′) in
+        let now : Booked struck = record { bench = noticed-bench struck; begun = begun; same = refl; whole-is = there .2 } in
+        let memory = memoryOf ((at, byte) ∷ bs) in
+        let accepted = accepts struck 0 memory (plainly 256) answer after (well now) (here now memory (tab-length 0x10000 (byteOf ((at, byte) ∷ bs)))) refl promise in
+        never-stale (noticed-bench struck) begun 0 memory (plainly 256) (omega arith) (all-noticed struck) answer after promise accepted
+        ∙ rw (there .1) looked-now
+
+-- in the figure's memory
+module _ (ws : List ℕ) (one : OneAsked 256 ws) where
   pub stale-caught : StaleCaught ws
-  unfolding refusal3 edited-bench noticed-bench shot-now
-  stale-caught told struck noticed answer after promise =
-      let there = asked-there in
-      let booked = booked-256 ws one in
-      let done : Noticed ws 0x2f00 1 said.Done struck = rw (taken booked 0x2f00 1 told struck (omega arith) noticed) at noticed in
-      let done′ : Noticed (asked-bench .words) 0x2f00 1 said.Done struck = rw (there .0) done in
-      let begun : Begun (noticed-bench struck) = later (later asked-begun (edit (λ a. eqb 0x2f00 a) (λ a. 0x01))) (notice 0x2f00 1 said.Done struck done′) in
-      let now : Booked struck = record { bench = noticed-bench struck; begun = begun; same = refl; whole-is = there .2 } in
-      let memory = memoryOf ((0x2f00, 0x01) ∷ figure) in
-      let accepted = accepts struck 0 memory (plainly 256) answer after (well now) (here now memory (tab-length 0x10000 (byteOf ((0x2f00, 0x01) ∷ figure)))) refl promise in
-      never-stale (noticed-bench struck) begun 0 memory (plainly 256) (omega arith) (all-noticed struck) answer after promise accepted
-      ∙ rw (there .1) looked-now
+  unfolding shot-now
+  stale-caught = caught figure ws one 0x2f00 0x01 (omega arith) looked-now
 
   -- an edit beside its pieces, without a notice
   besides-bench : (ℕ → ℕ) → State
-  besides-bench other = editing asked-bench beside other
+  besides-bench other = editing (asked-bench figure ws one) beside other
 
   alone-is : ws ≡ alone
   unfolding alone
-  alone-is = words-one 256 0 shot-256 (omega arith) (computed .for-256-alone) looked-256 ws one
+  alone-is = words-one figure 256 (omega arith) ws one shot-256 (computed .for-256-alone) looked-256
 
   today-is : (other : ℕ → ℕ) → today (besides-bench other) ≡ tab 0x10000 (λ a. if beside a then other a else byteOf figure a)
   unfolding besides-bench
   today-is other =
-      rw (asked-there .2) (values-same _ _ 0x10000 0 (λ j low high. rw (zero-add, asked-calm .bytes j)))
+      rw (asked-there figure ws one .2) (values-same _ _ 0x10000 0 (λ j low high. rw (zero-add, asked-calm figure ws one .bytes j)))
 
-  away : (a : ℕ) → (a ≡ 0x8007 → ⊥) → (a ≡ 0x8010 → ⊥) → (a ≡ 0x2eff → ⊥) → (a ≡ 0x2f40 → ⊥) → (beside a || asked-bench .unnoticed a) ≡ false
-  away a n1 n2 n3 n4 = simp (ne-eqb _ _ n1, ne-eqb _ _ n2, ne-eqb _ _ n3, ne-eqb _ _ n4, asked-calm .clean a)
+  away : (a : ℕ) → (a ≡ 0x8007 → ⊥) → (a ≡ 0x8010 → ⊥) → (a ≡ 0x2eff → ⊥) → (a ≡ 0x2f40 → ⊥) → (beside a || asked-bench figure ws one .unnoticed a) ≡ false
+  away a n1 n2 n3 n4 = simp (ne-eqb _ _ n1, ne-eqb _ _ n2, ne-eqb _ _ n3, ne-eqb _ _ n4, asked-calm figure ws one .clean a)
 
   clear : (other : ℕ → ℕ) → Clean (besides-bench other .unnoticed) (piecesOf (shot-256 .list))
   unfolding piecesOf shot-256 besides-bench
@@ -659,21 +673,42 @@ module _ (ws : List ℕ) (one : OneAsked 256 ws) where
   pub edges-leave-it : EdgesLeaveIt ws
   unfolding refusal3 besides-bench shot-256
   edges-leave-it other told after promise =
-      let h : Holds ws = rw alone-is holds-alone in
-      let there = asked-there in
+      let h : Holds shot-256 ws = rw alone-is holds-alone in
+      let there = asked-there figure ws one in
       let memory = tab 0x10000 (λ a. if beside a then other a else byteOf figure a) in
-      let booked = booked-256 ws one in
+      let booked = booked-256 figure ws one in
       let k = h .key-is in
       let accepted = accepts ws 0 memory (plainly 256) told after (well booked) (here booked memory (tab-length 0x10000 (λ a. if beside a then other a else byteOf figure a))) refl promise in
       let from = kept-from-its-slot ws 0 memory (plainly 256) told after promise accepted 0 (record { below = h .below; key = h .key-is }) in
-      let begun : Begun (besides-bench other) = later asked-begun (edit beside other) in
-      let clean : Clean (besides-bench other .unnoticed) (listOf (blockAt (asked-bench .words) 0)) = rw (there .0, h .list-is) (clear other) in
+      let begun : Begun (besides-bench other) = later (asked-begun figure ws one) (edit beside other) in
+      let clean : Clean (besides-bench other .unnoticed) (listOf (blockAt (asked-bench figure ws one .words) 0)) = rw (there .0, h .list-is) (clear other) in
       let good =
       still-good (besides-bench other) begun 0 (omega arith) (λ none. let z = sym (ap (λ (words : List ℕ). keyAt words 0) (there .0)) ∙ none in omega arith) clean (plainly 256)
       (rw (there .0) (h .request-is)) in
       let good′ : lookedUp plain 0 memory (plainly 256) ≡ record { answer = looked.Is (outcomeOf (blockAt ws 0)); list = listOf (blockAt ws 0) }
       = rw (today-is other, there .0, there .1, there .2) at good in
       (ap lookedIn (from .0) ∙ h .told-is, good′ ∙ h .told-is)
+
+-- where the L1STD points past the memory, and then to another place there
+module _ (ws : List ℕ) (one : OneAskedIn pastTheEnd 256 ws) where
+  away-is : ws ≡ holds fresh 0 (plainly 256) (wants 0x12f00)
+  away-is = words-one pastTheEnd 256 (omega arith) ws one (wants 0x12f00) (computed .for-256-alone) (real-faults .1 .1 .1 .1 .0)
+
+  pub address-caught : AddressCaught ws
+  unfolding refusal3
+  address-caught =
+      record {
+        kept = λ told after promise.
+            let h : Holds (wants 0x12f00) ws = rw away-is holds-away in
+            let memory = memoryOf ((0x800a, 0x02) ∷ pastTheEnd) in
+            let booked = booked-256 pastTheEnd ws one in
+            let accepted = accepts ws 0 memory (plainly 256) told after (well booked) (here booked memory (tab-length 0x10000 (byteOf ((0x800a, 0x02) ∷ pastTheEnd)))) refl promise in
+            let from = kept-from-its-slot ws 0 memory (plainly 256) told after promise accepted 0 (record { below = h .below; key = h .key-is }) in
+            let held : looked.Is (outcomeOf (blockAt ws 0)) ≡ looked.Is (Fault fSteFetch 0x12f00) = ap (λ (l : Looked). l .answer) (h .told-is) in
+            let same : outcomeOf (blockAt ws 0) ≡ Fault fSteFetch 0x12f00 = cc in
+            ap (λ (a : Asked). a .reply) (from .0) ∙ ap reply.KeptBefore same;
+        noticed = caught pastTheEnd ws one 0x800a 0x02 (omega arith) (real-faults .1 .1 .1 .1 .1 .0);
+      }
 
 -- whatever lies above the memory that is lent
 pub above-never-counts : AboveNeverCounts
@@ -684,7 +719,7 @@ above-never-counts f same =
 
 -- the report of 256 and 260
 sample-text : reportText sampled ≡ sample
-unfolding registersOf openedWith firstFrom blockAt valuesFrom copied packed unpacked laidOut wordsOf outcomeOf listOf piecesOf shot-256 shot-260 fresh alone sampled reportText linesFrom lineAt lineFor lineText cellsFrom columnsOf endingOf cellText headerText keptText slotText streamText substreamText outcomeText abortText eventText decimalText digits recorded
+unfolding registersOf openedWith firstFrom blockAt valuesFrom copied packed unpacked laidOut wordsOf outcomeOf aborted fetchEvent listOf piecesOf shot-256 shot-260 fresh alone sampled reportText linesFrom lineAt lineFor lineText cellsFrom columnsOf endingOf cellText headerText keptText slotText streamText substreamText outcomeText abortText eventText addressText decimalText digits recorded
 sample-text = refl
 
 module _ (ws : List ℕ) (two : TwoAsked 256 260 ws) where
@@ -692,7 +727,7 @@ module _ (ws : List ℕ) (two : TwoAsked 256 260 ws) where
   unfolding alone sampled
   sampled-is =
       let first : two .first ≡ alone = alone-is (two .first) (two .one) in
-      let booked : Booked alone = rw first at (booked-256 (two .first) (two .one)) in
+      let booked : Booked alone = rw first at (booked-256 figure (two .first) (two .one)) in
       let asks : Asks alone 0 benchMemory (plainly 260) (two .told) ws = rw first at (two .asks) in
       asked-is plain 2 booked figure (plainly 260) 1 shot-260 (computed .for-260) (omega arith) looked-260 (two .told) ws asks
 

@@ -5,6 +5,7 @@
 --     FullAndKept      NewInLowest, KeptFromItsSlot, HoldsWhatItHeld: a full book, its last slot, another base
 --     ThreeAndFour     a list of three, one of four and one of two in a book of four slots, and what strikes which
 --     StaleCaught      NeverStale: an STE is edited and noticed; the next ask gives what is there now
+--     AddressCaught    NeverStale, KeptFromItsSlot: an answer that is stale in its address alone, kept until the notice and caught after it
 --     EdgesLeaveIt     StillGood: edits of the bytes right before and right after a list's pieces, without notice, leave its answer good
 --     AboveNeverCounts OutsideNeverCounts: whatever bytes lie above the memory that is lent
 --     SampleReport     the report of the rules
@@ -19,8 +20,10 @@ use Rattle.bit_fields.specs.Choice.{if_then_else_}
 use Rattle.placed.specs.From.{tab}
 use Rattle.ids.specs.declared.Request.{Request}
 use Rattle.ids.specs.declared.Substream.the-variants.{Without, With}
+use Rattle.answers.specs.Outcome.{fSteFetch}
 use Rattle.answers.specs.declared.Outcome.{Outcome}
-use Rattle.answers.specs.declared.Outcome.the-variants.{Bypass, Quiet}
+use Rattle.answers.specs.declared.Outcome.the-variants.{Bypass, Fault, Quiet}
+use Rattle.memory_image.specs.Rule.{Ran}
 use Rattle.lookup.specs.Lookup.{answered, lookedUp}
 use Rattle.lookup.specs.declared.Looked.{Looked}
 use Rattle.book_words.specs.Layout.{keyAt, keyOf}
@@ -61,13 +64,16 @@ Keys ws ks = KeysFrom ws 0 ks
 abbrev pub Leaves : List ℕ → ℕ → List ℕ → Type 0
 Leaves ws start ks = (says : Said) (after : List ℕ) → Noticed ws start 1 says after → Keys after ks
 
--- a book of two slots, opened on the figure's bench, and asked for one stream, or for two
-pub record OneAsked (n : ℕ) (ws : List ℕ) : Type 0 where
+-- a book of two slots, opened on the figure's bench, and asked for one stream in a memory, or in the figure's for one or for two
+pub record OneAskedIn (bs : List (ℕ × ℕ)) (n : ℕ) (ws : List ℕ) : Type 0 where
   pub before : List ℕ
   pub opened : List ℕ
   pub opens : Opened plain whole 2 before Done opened
   pub told : Asked
-  pub asks : Asks opened 0 benchMemory (plainly n) told ws
+  pub asks : Asks opened 0 (memoryOf bs) (plainly n) told ws
+
+abbrev pub OneAsked : ℕ → List ℕ → Type 0
+OneAsked n ws = OneAskedIn figure n ws
 
 pub record TwoAsked (n m : ℕ) (ws : List ℕ) : Type 0 where
   pub first : List ℕ
@@ -145,11 +151,29 @@ pub record ThreeAndFour (ws : List ℕ) : Type 0 where
 abbrev pub says : Outcome → Looked
 says outcome = answered (record { answer = outcome; list = piece 0x8008 8 ∷ (piece 0x2f00 64 ∷ []) })
 
--- an answer is kept, its STE is edited, and the edit is noticed
+-- an answer is kept, a byte of its tables is edited, and the edit is noticed: what the next ask gives
+abbrev pub Caught : List (ℕ × ℕ) → List ℕ → ℕ → ℕ → Looked → Type 0
+Caught bs ws at byte now =
+    (said : Said) (struck : List ℕ) → Noticed ws at 1 said struck → (told : Asked) (after : List ℕ)
+    → Asks struck 0 (memoryOf ((at, byte) ∷ bs)) (plainly 256) told after → lookedIn told ≡ now
+
 abbrev pub StaleCaught : List ℕ → Type 0
-StaleCaught ws =
-    (said : Said) (struck : List ℕ) → Noticed ws 0x2f00 1 said struck → (told : Asked) (after : List ℕ)
-    → Asks struck 0 (memoryOf ((0x2f00, 0x01) ∷ figure)) (plainly 256) told after → lookedIn told ≡ says Quiet
+StaleCaught ws = Caught figure ws 0x2f00 0x01 (says Quiet)
+
+-- the L1STD of 256 points past the memory, at 0x12F20; what the rules say of 256 where its STE isn't fetched
+abbrev pub pastTheEnd : List (ℕ × ℕ)
+pastTheEnd = (0x800a, 0x01) ∷ figure
+
+abbrev pub wants : ℕ → Ran Outcome
+wants address = record { answer = Fault fSteFetch address; list = piece 0x8008 8 ∷ [] }
+
+-- then it is pointed at 0x22F20: the address alone differs
+pub record AddressCaught (ws : List ℕ) : Type 0 where
+  -- the edit lacks its notice: the kept answer, with the address of before
+  pub kept :
+      (told : Asked) (after : List ℕ) → Asks ws 0 (memoryOf ((0x800a, 0x02) ∷ pastTheEnd)) (plainly 256) told after
+      → told .reply ≡ KeptBefore (Fault fSteFetch 0x12f00)
+  pub noticed : Caught pastTheEnd ws 0x800a 0x02 (answered (wants 0x22f00))
 
 -- whatever is written right before and right after its L1STD and its STE, without a notice
 abbrev pub beside : ℕ → Bool
@@ -169,7 +193,7 @@ AboveNeverCounts =
 
 -- the sample: the report after asks for 256 and 260, into a buffer with room for it
 abbrev pub sample : List ℕ
-sample = bytes "slot\tstream\tsubstream\toutcome\tevent\n0\t00000100\t-\tbypass\t-\n1\t00000104\t-\tabort\t02\n"
+sample = bytes "slot\tstream\tsubstream\toutcome\tevent\taddress\n0\t00000100\t-\tbypass\t-\t-\n1\t00000104\t-\tabort\t02\t-\n"
 
 pub record SampleReport (ws : List ℕ) : Type 0 where
   pub text : reportText ws ≡ sample

@@ -19,18 +19,18 @@ use Rattle.bit_fields.proofs.ChoiceLaws.{either}
 use Rattle.registers.specs.Fields.{smmuEn}
 use Rattle.registers.specs.Fields as fields
 use Rattle.registers.specs.declared.Registers.{Registers}
-use Rattle.memory_image.specs.Extent.{extentOf, endOf, fetchRule}
+use Rattle.memory_image.specs.Extent.{extentOf, endOf, fetchRule, wanted}
 use Rattle.memory_image.specs.Words.{wordOf}
 use Rattle.memory_image.specs.Rule.{Rule, done, Fetches, Every, Gives}
 use Rattle.memory_image.specs.declared.Fetched.{Fetched}
 use Rattle.memory_image.specs.declared.Fetched.the-variants.{At, Outside}
-use Rattle.answers.specs.Outcome.{cBadStreamId, fSteFetch}
+use Rattle.answers.specs.Outcome.{cBadStreamId, fSteFetch, fetchEvent}
 use Rattle.answers.specs.Pieces.{pushPiece}
 use Rattle.answers.specs.Walk.{Walks}
 use Rattle.answers.specs.Proper.{listedEvent, properOutcome}
 use Rattle.answers.specs.declared.Outcome.{Outcome}
-use Rattle.answers.specs.declared.Outcome.the-variants.{Abort}
-use Rattle.answers.proofs.WalkLaws.{walk-done, fault-one, read-one}
+use Rattle.answers.specs.declared.Outcome.the-variants.{Abort, Fault}
+use Rattle.answers.proofs.WalkLaws.{walk-done, walk-fault, read-one}
 use Rattle.stream_table.specs.StreamTable.{switchedOff, log2, isLinear, linearAt, splitOf, l1stdAt, stesHeld, spanOf, inLeaf, leafRule, twoLevelRule, streamRule}
 use Rattle.stream_table.specs.declared.Found.{Found}
 use Rattle.stream_table.specs.declared.Found.the-variants.{Ste, Ended}
@@ -43,9 +43,11 @@ module _ (base : ℕ) (memory : List ℕ) (r : Registers) (stream : ℕ) (ws : L
 
   module _ (split : ℕ) {address : ℕ} (at : address ≡ l1stdAt r split stream) {said : Fetched}
       (is : said ≡ fetchRule (extentOf base memory) (endOf (extentOf base memory)) address 8) where
-    pub two-fault : said ≡ Outside → Goes (twoLevelRule r split stream) (Ended (Abort fSteFetch)) ws
+    pub two-fault : {a got : ℕ} → said ≡ Outside a → got ≡ wanted said → Goes (twoLevelRule r split stream) (Ended (Fault fSteFetch got)) ws
     unfolding twoLevelRule
-    two-fault out = rw (← at) (fault-one base memory address 1 is ws (Ended (Abort fSteFetch)) (λ word. leafRule r split word stream) out)
+    two-fault out told =
+        rw (← at)
+        (walk-fault base memory address 1 is ws (λ a. Ended (Fault fSteFetch a)) (λ w. done (leafRule r split (w 0) stream)) out told)
 
     pub two-read :
         {place word : ℕ} {found : Found} {longer : List ℕ} → said ≡ At place
@@ -54,7 +56,7 @@ module _ (base : ℕ) (memory : List ℕ) (r : Registers) (stream : ℕ) (ws : L
     unfolding twoLevelRule
     two-read had push read leaf =
         rw (← at)
-        (read-one base memory address 1 is ws (Ended (Abort fSteFetch)) (λ word. leafRule r split word stream) (omega arith) had read push leaf)
+        (read-one base memory address 1 is ws (Ended (Fault fSteFetch address)) (λ word. leafRule r split word stream) (omega arith) had read push leaf)
 
   module _ {on : ℕ} (enabled : on ≡ smmuEn r) where
     pub find-off : on ≡ 0 → {outcome : Outcome} → outcome ≡ switchedOff r → Goes (streamRule r stream) (Ended outcome) ws
@@ -122,7 +124,7 @@ module _ (r : Registers) (stream : ℕ) where
   stream-every P eight = stream-cases (Every P) (λ x proper. tt) (eight, (tt, λ w. tt))
 
   pub stream-proper : Gives EndsProper (streamRule r stream)
-  unfolding twoLevelRule properOutcome listedEvent
+  unfolding twoLevelRule properOutcome fetchEvent
   stream-proper =
       stream-cases (Gives EndsProper) (λ x proper. proper) (refl, λ w. leaf-proper r (splitOf (fields.split r)) (w 0) stream)
 

@@ -4,7 +4,8 @@
 --     log2             step 2: the effective LOG2SIZE
 --     isLinear, linearAt   step 3
 --     splitOf, l1stdAt     step 4
---     stesHeld, leafRule   steps 5 and 6, from an L1STD
+--     fromL1std            step 4's fetch
+--     stesHeld, leafRule   steps 5 and 6, from what the L1STD says
 -- The STE itself is fetched by whoever asks where it is.
 -- Assumes: nothing.
 use Prim.Native.Nat.{ℕ, _+_, _-_, _*_, _^_, min, max}
@@ -17,7 +18,7 @@ use Rattle.registers.specs.declared.Registers.{Registers}
 use Rattle.memory_image.specs.Rule.{Rule, done, fetch}
 use Rattle.answers.specs.Outcome.{cBadStreamId, fSteFetch}
 use Rattle.answers.specs.declared.Outcome.{Outcome}
-use Rattle.answers.specs.declared.Outcome.the-variants.{Abort, Quiet, BypassGlobal}
+use Rattle.answers.specs.declared.Outcome.the-variants.{Abort, Fault, Quiet, BypassGlobal}
 use Rattle.stream_table.specs.declared.Found.{Found}
 use Rattle.stream_table.specs.declared.Found.the-variants.{Ste, Ended}
 use Rattle.stream_table.specs.declared.Leaf.{Leaf}
@@ -77,10 +78,14 @@ inLeaf (Holds n) l1std index =
 unfoldable pub leafRule : Registers → ℕ → ℕ → ℕ → Found
 leafRule r leafBits l1std stream = inLeaf (stesHeld (spanOf l1std) leafBits) l1std (low stream leafBits)
 
+-- from an L1STD's address: it is 8 bytes; a fetch that fails is F_STE_FETCH with that address
+abbrev pub fromL1std : Registers → ℕ → ℕ → ℕ → Rule Found
+fromL1std r leafBits stream address =
+    fetch address 1 (done (Ended (Fault fSteFetch address))) (λ w. done (leafRule r leafBits (w 0) stream))
+
 -- a two-level table, split at so many bits
 unfoldable pub twoLevelRule : Registers → ℕ → ℕ → Rule Found
-twoLevelRule r leafBits stream =
-    fetch (l1stdAt r leafBits stream) 1 (done (Ended (Abort fSteFetch))) (λ w. done (leafRule r leafBits (w 0) stream))
+twoLevelRule r leafBits stream = fromL1std r leafBits stream (l1stdAt r leafBits stream)
 
 unfoldable pub streamRule : Registers → ℕ → Rule Found
 streamRule r stream =

@@ -132,8 +132,10 @@ fn two_level(
     ensures { λ r. ⌜ Walks base (now (memory .entry)) (twoLevelRule registers split (stream .number)) (now (words .entry)) r (now (words .exit)) ⌝ }
 {
     let address = l1std_at(registers, split, stream);
-    let Fetched::At(place) = memory_image::fetch(base, memory, address, 8) else {
-        return Found::Ended(Outcome::Abort(answers::F_STE_FETCH));
+    let fetched = memory_image::fetch(base, memory, address, 8);
+    let Fetched::At(place) = fetched else {
+        let wanted = fetched.wanted();
+        return Found::Ended(Outcome::Fault(answers::F_STE_FETCH, wanted));
     };
     answers::push_piece(words, address, 8);
     let l1std = memory_image::word_of(memory, place, 0);

@@ -15,7 +15,7 @@ returns-3 : tie.Need-returns-3
 returns-3 c = search of-global
 
 returns-4 : tie.Need-returns-4
-returns-4 c = search of-abort
+returns-4 c = search (needs, of-abort)
 
 returns-5 : tie.Need-returns-5
 returns-5 c = search of-unserved
@@ -33,6 +33,10 @@ outcome-of-spec =
     returns
     returns-2
     returns-3
+    (λ c. search needs)
+    (λ c. search needs)
+    (λ c. search needs)
+    (λ c κs. search needs)
     returns-4
     returns-5
     returns-6)

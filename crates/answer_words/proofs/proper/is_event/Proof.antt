@@ -12,32 +12,22 @@ returns c = search (event-is 2 refl)
 
 returns-2 : tie.Need-returns-2
 unfolding listedEvent
-returns-2 c = search (event-is 3 refl)
+returns-2 c = search (event-is 4 refl)
 
 returns-3 : tie.Need-returns-3
 unfolding listedEvent
-returns-3 c = search (event-is 4 refl)
+returns-3 c = search (event-is 6 refl)
 
 returns-4 : tie.Need-returns-4
 unfolding listedEvent
-returns-4 c = search (event-is 6 refl)
+returns-4 c = search (event-is 8 refl)
 
 returns-5 : tie.Need-returns-5
 unfolding listedEvent
-returns-5 c = search (event-is 8 refl)
+returns-5 c = search (event-is 10 refl)
 
 returns-6 : tie.Need-returns-6
-unfolding listedEvent
-returns-6 c = search (event-is 9 refl)
-
-returns-7 : tie.Need-returns-7
-unfolding listedEvent
-returns-7 c = search (event-is 10 refl)
-
-returns-8 : tie.Need-returns-8
-returns-8 c = search event-other
+returns-6 c = search event-other
 
 pub is-event-spec : {M : Type 1} → statement M
-is-event-spec =
-    tie.close
-    (tie.spec returns returns-2 returns-3 returns-4 returns-5 returns-6 returns-7 returns-8)
+is-event-spec = tie.close (tie.spec returns returns-2 returns-3 returns-4 returns-5 returns-6)

@@ -1,7 +1,7 @@
 -- Proof of `answer_words::proper::is_outcome`: an outcome by its cases.
 -- Assumes: nothing.
 use borrow.Author.Needs.{needs}
-use Rattle.answer_words.proofs.ProperTests.{translate-tested, bypass-tested, global-tested, abort-tested, quiet-tested, unserved-tested}
+use Rattle.answer_words.proofs.ProperTests.{translate-tested, bypass-tested, global-tested, abort-tested, fault-tested, quiet-tested, unserved-tested}
 use Rattle.answer_words.proofs.proper.is_outcome.Statement.{statement}
 use Rattle.answer_words.proofs.proper.is_outcome.Tie as tie
 
@@ -18,10 +18,13 @@ returns-4 : tie.Need-returns-4
 returns-4 c = search abort-tested
 
 returns-5 : tie.Need-returns-5
-returns-5 c = search quiet-tested
+returns-5 c = search fault-tested
 
 returns-6 : tie.Need-returns-6
-returns-6 c = search unserved-tested
+returns-6 c = search quiet-tested
+
+returns-7 : tie.Need-returns-7
+returns-7 c = search unserved-tested
 
 pub is-outcome-spec : {M : Type 1} → statement M
 is-outcome-spec =
@@ -34,6 +37,8 @@ is-outcome-spec =
     (λ c. search needs)
     (λ c κs. search needs)
     (λ c. search needs)
+    (λ c κs. search needs)
+    (λ c. search needs)
     (λ c. search needs)
     (λ c κs. search needs)
     returns
@@ -41,4 +46,5 @@ is-outcome-spec =
     returns-3
     returns-4
     returns-5
-    returns-6)
+    returns-6
+    returns-7)

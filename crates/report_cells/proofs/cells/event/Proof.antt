@@ -1,7 +1,7 @@
 -- Proof of `report_cells::cells::event`: an outcome each.
 -- Assumes: nothing.
 use borrow.Author.Needs.{needs}
-use Rattle.report_cells.proofs.CellsLaws.{translates-without, bypasses-without, bypasses-all-without, event-spelled, is-quiet-without, case-spelled}
+use Rattle.report_cells.proofs.CellsLaws.{translates-without, bypasses-without, bypasses-all-without, event-spelled, fault-spelled, is-quiet-without, case-spelled}
 use Rattle.report_cells.proofs.cells.event.Statement.{statement}
 use Rattle.report_cells.proofs.cells.event.Tie as tie
 
@@ -21,6 +21,8 @@ event-spec =
     (λ c. search needs)
     (λ c κs. search needs)
     (λ c. search needs)
+    (λ c κs. search needs)
+    (λ c. search needs)
     (λ c. search needs)
     (λ c κs. search needs)
     (λ c. search needs)
@@ -29,5 +31,6 @@ event-spec =
     (λ c. search bypasses-without)
     (λ c. search bypasses-all-without)
     (λ c. search event-spelled)
+    (λ c. search fault-spelled)
     (λ c. search is-quiet-without)
     (λ c. search case-spelled))
