@@ -10,7 +10,7 @@
 #include "llobatelh.h"
 
 #define MEMORY_BYTES 65600 /* more than can be lent */
-#define OUT_BYTES 2112     /* more than is lent of the report's buffer */
+#define OUT_BYTES 2888     /* more than the longest report; oracle/src/damage/case.rs has the same number */
 
 enum { MEMORY, LOOKUP, STE_PART, OPEN, ASK, NOTICE, REPORT, IS_RECORDED };
 

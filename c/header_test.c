@@ -52,6 +52,7 @@ static const uint64_t strtab_base = 0x8000;
 #define HYP (1u << 9)
 #define CD2L (1u << 19)
 #define ST_LEVEL (1u << 27)
+#define ABOVE_OAS ((uint64_t)1 << 55) /* the highest bit that a pointer to a descriptor has */
 
 static void put_word(size_t at, uint64_t word)
 {
@@ -188,24 +189,38 @@ static void translation(void)
     CHECK(LLOBATELH_ANSWER_LENGTH(LLOBATELH_PIECES_MOST - 1) == LLOBATELH_ANSWER_WORDS - 1);
 }
 
-/* A kind with one value, which stands first; the words that it does not use are 0. */
-static void check_kind(uint64_t kind, uint64_t value, uint64_t count, int line)
+/* A kind with two values at most, which stand first; the words that it does not use are 0. */
+static void check_values(uint64_t kind, uint64_t value, uint64_t second, uint64_t count, int line)
 {
     size_t i;
 
     check(marked(answer, LLOBATELH_ANSWER_WORDS) == 0, line);
     check(answer[LLOBATELH_ANSWER_KIND] == kind, line);
     check(answer[LLOBATELH_ANSWER_STE] == value, line);
-    for (i = LLOBATELH_ANSWER_CD; i <= LLOBATELH_ANSWER_TTB0; i++)
+    check(answer[LLOBATELH_ANSWER_CD] == second, line);
+    for (i = LLOBATELH_ANSWER_ASID; i <= LLOBATELH_ANSWER_TTB0; i++)
         check(answer[i] == 0, line);
     check(answer[LLOBATELH_ANSWER_COUNT] == count, line);
     for (i = LLOBATELH_ANSWER_ADDRESS(count); i < LLOBATELH_ANSWER_WORDS; i++)
         check(answer[i] == 0, line);
 }
 
+/* A kind with one value. */
+static void check_kind(uint64_t kind, uint64_t value, uint64_t count, int line)
+{
+    check_values(kind, value, 0, count, line);
+}
+
+/* An abort by a fetch that failed, and the address that it wanted. */
+static void check_fault(uint64_t event, uint64_t wanted, uint64_t count, int line)
+{
+    check_values(LLOBATELH_ABORT, event, wanted, count, line);
+}
+
 static void other_kinds(void)
 {
     CHECK(LLOBATELH_ANSWER_EVENT == LLOBATELH_ANSWER_STE && LLOBATELH_ANSWER_CASE == LLOBATELH_ANSWER_STE);
+    CHECK(LLOBATELH_ANSWER_WANTED == LLOBATELH_ANSWER_CD);
     CHECK(look(256, LLOBATELH_WITHOUT, 70) == LLOBATELH_DONE);
     check_kind(LLOBATELH_BYPASS, 0x2F00, 2, __LINE__);
     CHECK(look(260, LLOBATELH_WITHOUT, 0) == LLOBATELH_DONE);
@@ -223,25 +238,59 @@ static void other_kinds(void)
     set_registers();
 }
 
-static void check_event(uint64_t event, int line)
+/* An L1STD or an STE is not fetched: the answer has the address that was wanted, bits above the OAS too. */
+static void failed_ste_fetches(void)
 {
-    check(answer[LLOBATELH_ANSWER_KIND] == LLOBATELH_ABORT && answer[LLOBATELH_ANSWER_EVENT] == event, line);
+    /* the L1STD: no memory is lent, and then the table lies above the OAS */
+    mark(answer, LLOBATELH_ANSWER_WORDS + 1);
+    CHECK(llobatelh_lookup(registers, strtab_base, 0, NULL, 0, 768, LLOBATELH_WITHOUT, 0, answer) == LLOBATELH_DONE);
+    check_fault(LLOBATELH_F_STE_FETCH, 0x8018, 0, __LINE__);
+    CHECK(llobatelh_lookup(registers, ABOVE_OAS | strtab_base, 0, memory, LLOBATELH_MEMORY_MOST, 768, LLOBATELH_WITHOUT, 0,
+                           answer) == LLOBATELH_DONE);
+    check_fault(LLOBATELH_F_STE_FETCH, ABOVE_OAS | 0x8018, 0, __LINE__);
+    /* the STE: right past the memory, and above the OAS */
+    put_word(0x8010, 0x10000 | 1);
+    CHECK(look(512, LLOBATELH_WITHOUT, 0) == LLOBATELH_DONE);
+    check_fault(LLOBATELH_F_STE_FETCH, 0x10000, 1, __LINE__);
+    put_word(0x8010, ABOVE_OAS | 0x4000 | 1);
+    CHECK(look(512, LLOBATELH_WITHOUT, 0) == LLOBATELH_DONE);
+    check_fault(LLOBATELH_F_STE_FETCH, ABOVE_OAS | 0x4000, 1, __LINE__);
+    set_tables();
 }
 
+/* The same of an L1CD and a CD. */
+static void failed_cd_fetches(void)
+{
+    /* the L1CD: right past the memory, and above the OAS */
+    put_word(0x4000, 0x400000000001001B);
+    CHECK(look(768, LLOBATELH_WITH, 70) == LLOBATELH_DONE);
+    check_fault(LLOBATELH_F_CD_FETCH, 0x10008, 2, __LINE__);
+    put_word(0x4000, ABOVE_OAS | 0x400000000000C01B);
+    CHECK(look(768, LLOBATELH_WITH, 70) == LLOBATELH_DONE);
+    check_fault(LLOBATELH_F_CD_FETCH, ABOVE_OAS | 0xC008, 2, __LINE__);
+    set_tables();
+    /* the CD: past the memory, and above the OAS */
+    CHECK(look(768, LLOBATELH_WITH, 1) == LLOBATELH_DONE);
+    check_fault(LLOBATELH_F_CD_FETCH, 0x20040, 3, __LINE__);
+    put_word(0xC000, ABOVE_OAS | 0xA000 | 1);
+    CHECK(look(768, LLOBATELH_WITH, 6) == LLOBATELH_DONE);
+    check_fault(LLOBATELH_F_CD_FETCH, ABOVE_OAS | 0xA180, 3, __LINE__);
+    set_tables();
+}
+
+/* The other events, whose aborts have no address, and the cases. */
 static void events_and_cases(void)
 {
-    CHECK(llobatelh_lookup(registers, strtab_base, 0, NULL, 0, 0, LLOBATELH_WITHOUT, 0, answer) == LLOBATELH_DONE);
-    check_event(LLOBATELH_F_STE_FETCH, __LINE__);
+    CHECK(look(1024, LLOBATELH_WITHOUT, 0) == LLOBATELH_DONE);
+    check_kind(LLOBATELH_ABORT, LLOBATELH_C_BAD_STREAMID, 0, __LINE__);
     CHECK(look(2, LLOBATELH_WITHOUT, 0) == LLOBATELH_DONE);
-    check_event(LLOBATELH_C_BAD_STE, __LINE__);
+    check_kind(LLOBATELH_ABORT, LLOBATELH_C_BAD_STE, 2, __LINE__);
     CHECK(look(768, LLOBATELH_WITHOUT, 70) == LLOBATELH_DONE);
-    check_event(LLOBATELH_F_STREAM_DISABLED, __LINE__);
+    check_kind(LLOBATELH_ABORT, LLOBATELH_F_STREAM_DISABLED, 2, __LINE__);
     CHECK(look(256, LLOBATELH_WITH, 0) == LLOBATELH_DONE);
-    check_event(LLOBATELH_C_BAD_SUBSTREAMID, __LINE__);
-    CHECK(look(768, LLOBATELH_WITH, 0) == LLOBATELH_DONE);
-    check_event(LLOBATELH_F_CD_FETCH, __LINE__);
+    check_kind(LLOBATELH_ABORT, LLOBATELH_C_BAD_SUBSTREAMID, 2, __LINE__);
     CHECK(look(768, 0xFF, 71) == LLOBATELH_DONE);
-    check_event(LLOBATELH_C_BAD_CD, __LINE__);
+    check_kind(LLOBATELH_ABORT, LLOBATELH_C_BAD_CD, 4, __LINE__);
     registers[LLOBATELH_IDR0] |= TTF_32;
     CHECK(look(768, LLOBATELH_WITH, 72) == LLOBATELH_DONE);
     CHECK(answer[LLOBATELH_ANSWER_KIND] == LLOBATELH_UNSERVED && answer[LLOBATELH_ANSWER_CASE] == LLOBATELH_VMSA_32);
@@ -395,7 +444,61 @@ static void notices(void)
     CHECK(is_as_before());
 }
 
+/* From its slot an abort has the address that it was kept with. */
+static void kept_addresses(void)
+{
+    CHECK(open(LLOBATELH_MEMORY_MOST, 1) == LLOBATELH_DONE);
+    CHECK(ask(768, LLOBATELH_WITH, 0) == LLOBATELH_NEWLY_KEPT);
+    check_fault(LLOBATELH_F_CD_FETCH, 0x20000, 3, __LINE__);
+    CHECK(book[LLOBATELH_BOOK_ANSWER(0) + LLOBATELH_ANSWER_WANTED] == 0x20000);
+    remember_book();
+    CHECK(ask(768, LLOBATELH_WITH, 0) == LLOBATELH_KEPT_BEFORE);
+    check_fault(LLOBATELH_F_CD_FETCH, 0x20000, 3, __LINE__);
+    CHECK(is_as_before());
+    /* the L1CD is edited: with the notice the address is another, and nothing else of the answer is */
+    put_word(0xC000, 0x30000 | 1);
+    CHECK(llobatelh_notice(book, 0xC000, 8) == LLOBATELH_DONE);
+    CHECK(ask(768, LLOBATELH_WITH, 0) == LLOBATELH_NEWLY_KEPT);
+    check_fault(LLOBATELH_F_CD_FETCH, 0x30000, 3, __LINE__);
+    before[LLOBATELH_BOOK_ANSWER(0) + LLOBATELH_ANSWER_WANTED] = 0x30000;
+    CHECK(is_as_before());
+    set_tables();
+}
+
+/* Whatever number the word WANTED of a kept abort has, the book is not refused. An ask gives it for a failed fetch, and else 0. */
+static void check_kept_abort(uint64_t event, uint64_t wanted, int line)
+{
+    int is_fetch = event == LLOBATELH_F_STE_FETCH || event == LLOBATELH_F_CD_FETCH;
+
+    book[LLOBATELH_BOOK_ANSWER(0) + LLOBATELH_ANSWER_EVENT] = event;
+    book[LLOBATELH_BOOK_ANSWER(0) + LLOBATELH_ANSWER_WANTED] = wanted;
+    remember_book();
+    check(llobatelh_notice(book, 0, 0) == LLOBATELH_DONE, line);
+    check(ask(260, LLOBATELH_WITHOUT, 0) == LLOBATELH_KEPT_BEFORE, line);
+    check_values(LLOBATELH_ABORT, event, is_fetch ? wanted : 0, 1, line);
+    check(is_as_before(), line);
+}
+
+static void any_address(void)
+{
+    static const uint64_t events[] = {
+        LLOBATELH_C_BAD_STREAMID,    LLOBATELH_F_STE_FETCH, LLOBATELH_C_BAD_STE, LLOBATELH_F_STREAM_DISABLED,
+        LLOBATELH_C_BAD_SUBSTREAMID, LLOBATELH_F_CD_FETCH,  LLOBATELH_C_BAD_CD,
+    };
+    size_t i;
+
+    CHECK(open(LLOBATELH_MEMORY_MOST, 1) == LLOBATELH_DONE);
+    CHECK(ask(260, LLOBATELH_WITHOUT, 0) == LLOBATELH_NEWLY_KEPT);
+    for (i = 0; i < sizeof events / sizeof events[0]; i++) {
+        check_kept_abort(events[i], 0, __LINE__);
+        check_kept_abort(events[i], 1, __LINE__);
+        check_kept_abort(events[i], UINT64_MAX, __LINE__);
+    }
+}
+
 /* ---- The report ---- */
+
+#define HEADING "slot\tstream\tsubstream\toutcome\tevent\taddress\n"
 
 static uint8_t text[LLOBATELH_REPORT_MOST];
 static uint64_t length[2];
@@ -426,9 +529,9 @@ static int is_text(const char *expected)
 
 static void reports(void)
 {
-    static const char expected[] = "slot\tstream\tsubstream\toutcome\tevent\n"
-                                   "0\t00000100\t-\tbypass\t-\n"
-                                   "1\t00000104\t-\tabort\t02\n";
+    static const char expected[] = HEADING
+        "0\t00000100\t-\tbypass\t-\t-\n"
+        "1\t00000104\t-\tabort\t02\t-\n";
 
     CHECK(open(LLOBATELH_MEMORY_MOST, 2) == LLOBATELH_DONE);
     CHECK(ask(256, LLOBATELH_WITHOUT, 0) == LLOBATELH_NEWLY_KEPT);
@@ -445,8 +548,45 @@ static void reports(void)
     CHECK(report(0) == LLOBATELH_REFUSED_BOOK && is_text("") && length[0] == UNTOUCHED);
 }
 
-/* The longest report: 64 slots, each with a SubstreamID and the longest outcome. */
+/* The last column: the address that a failed fetch wanted, whatever the number; with another event none, whatever the word has. */
+static void reported_addresses(void)
+{
+    CHECK(open(LLOBATELH_MEMORY_MOST, 3) == LLOBATELH_DONE);
+    put_word(0x8010, 0x10000 | 1);
+    CHECK(ask(512, LLOBATELH_WITHOUT, 0) == LLOBATELH_NEWLY_KEPT);
+    CHECK(ask(768, LLOBATELH_WITH, 0) == LLOBATELH_NEWLY_KEPT);
+    CHECK(ask(260, LLOBATELH_WITHOUT, 0) == LLOBATELH_NEWLY_KEPT);
+    set_tables();
+    CHECK(report(sizeof text) == LLOBATELH_DONE);
+    CHECK(is_text(HEADING "0\t00000200\t-\tabort\t03\t0000000000010000\n"
+                          "1\t00000300\t00000\tabort\t09\t0000000000020000\n"
+                          "2\t00000104\t-\tabort\t02\t-\n"));
+    book[LLOBATELH_BOOK_ANSWER(0) + LLOBATELH_ANSWER_WANTED] = 0;
+    book[LLOBATELH_BOOK_ANSWER(1) + LLOBATELH_ANSWER_WANTED] = UINT64_MAX;
+    book[LLOBATELH_BOOK_ANSWER(2) + LLOBATELH_ANSWER_WANTED] = UINT64_MAX;
+    CHECK(report(sizeof text) == LLOBATELH_DONE);
+    CHECK(is_text(HEADING "0\t00000200\t-\tabort\t03\t0000000000000000\n"
+                          "1\t00000300\t00000\tabort\t09\tffffffffffffffff\n"
+                          "2\t00000104\t-\tabort\t02\t-\n"));
+}
+
+/* The longest report: 64 slots, each with a SubstreamID and an address. It has 2,850 bytes, since ten slots have one digit. */
 static void longest_report(void)
+{
+    uint32_t stream;
+
+    CHECK(LLOBATELH_REPORT_MOST == 2860 && sizeof HEADING - 1 == 44);
+    CHECK(open(0, LLOBATELH_SLOTS_MOST) == LLOBATELH_DONE);
+    for (stream = 0; stream < LLOBATELH_SLOTS_MOST; stream++)
+        CHECK(llobatelh_ask(book, 0, NULL, 0, stream, LLOBATELH_WITH, 0xFFFFF, answer) == LLOBATELH_NEWLY_KEPT);
+    CHECK(report(LLOBATELH_REPORT_MOST) == LLOBATELH_DONE);
+    CHECK(length[0] == LLOBATELH_REPORT_MOST - 10);
+    CHECK(report(LLOBATELH_REPORT_MOST - 10) == LLOBATELH_DONE);
+    CHECK(report(LLOBATELH_REPORT_MOST - 11) == LLOBATELH_REFUSED_BUFFER);
+}
+
+/* The longest outcome goes with an event that has no address: a report of it alone is shorter by 10 for each slot. */
+static void unrecorded_report(void)
 {
     uint32_t stream;
 
@@ -455,7 +595,7 @@ static void longest_report(void)
     for (stream = 0; stream < LLOBATELH_SLOTS_MOST; stream++)
         CHECK(ask(1024 + stream, LLOBATELH_WITH, 0xFFFFF) == LLOBATELH_NEWLY_KEPT);
     CHECK(report(LLOBATELH_REPORT_MOST) == LLOBATELH_DONE);
-    CHECK(length[0] <= LLOBATELH_REPORT_MOST && length[0] > LLOBATELH_REPORT_MOST - LLOBATELH_SLOTS_MOST);
+    CHECK(length[0] == LLOBATELH_REPORT_MOST - 10 - 10 * LLOBATELH_SLOTS_MOST);
     set_registers();
 }
 
@@ -477,6 +617,8 @@ int main(void)
     set_tables();
     translation();
     other_kinds();
+    failed_ste_fetches();
+    failed_cd_fetches();
     events_and_cases();
     refused_lookups();
     parts();
@@ -485,8 +627,12 @@ int main(void)
     asks();
     refused_asks();
     notices();
+    kept_addresses();
+    any_address();
     reports();
+    reported_addresses();
     longest_report();
+    unrecorded_report();
     recorded();
     say("the header: ");
     say_number(held);

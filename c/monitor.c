@@ -86,14 +86,19 @@ static void put_pair(uint64_t byte, const char *digits)
 
 /* ---- Answers ---- */
 
-/* An abort: whether its event is recorded goes by the registers that the answer was worked out with. */
-static void put_abort(uint64_t event, const uint32_t *registers, uint64_t strtab_base)
+/* An abort: whether its event is recorded goes by the registers that the answer was worked out with. A failed fetch has the address
+   that it wanted. */
+static void put_abort(const uint64_t *answer, const uint32_t *registers, uint64_t strtab_base)
 {
+    uint64_t event = answer[LLOBATELH_ANSWER_EVENT];
+
     if (llobatelh_is_recorded(registers, strtab_base, event))
         put("abort ");
     else
         put("unrecorded ");
     put_pair(event, "0123456789ABCDEF");
+    if (event == LLOBATELH_F_STE_FETCH || event == LLOBATELH_F_CD_FETCH)
+        put_address(" address ", answer[LLOBATELH_ANSWER_WANTED]);
 }
 
 static void put_translation(const uint64_t *answer)
@@ -121,7 +126,7 @@ static void put_outcome(const uint64_t *answer, const uint32_t *registers, uint6
         put("bypass global");
         break;
     case LLOBATELH_ABORT:
-        put_abort(answer[LLOBATELH_ANSWER_EVENT], registers, strtab_base);
+        put_abort(answer, registers, strtab_base);
         break;
     case LLOBATELH_QUIET:
         put("quiet");

@@ -44,8 +44,8 @@ typedef char llobatelh_size_has_64_bits[sizeof(size_t) == 8 ? 1 : -1];
 #define LLOBATELH_PIECES_MOST 4     /* descriptors that a lookup reads */
 #define LLOBATELH_STE_BYTES 64      /* bytes of an STE */
 
-/* 2,084 bytes of a report: a header of 36, and at most 32 for each slot. A buffer of so many is never refused with 8. */
-#define LLOBATELH_REPORT_MOST (36 + 32 * LLOBATELH_SLOTS_MOST)
+/* 2,860 bytes of a report: a header of 44, and at most 44 for each slot. A buffer of so many is never refused with 8. */
+#define LLOBATELH_REPORT_MOST (44 + 44 * LLOBATELH_SLOTS_MOST)
 
 /*
  * ---- Registers ----
@@ -107,7 +107,7 @@ typedef char llobatelh_size_has_64_bits[sizeof(size_t) == 8 ? 1 : -1];
 #define LLOBATELH_TRANSLATE 1     /* stage 1: words STE to TTB0 */
 #define LLOBATELH_BYPASS 2        /* by the STE at the word STE */
 #define LLOBATELH_BYPASS_GLOBAL 3 /* of every stream: the SMMU is off */
-#define LLOBATELH_ABORT 4         /* with the event of the word EVENT */
+#define LLOBATELH_ABORT 4         /* with the event of the word EVENT, and for a failed fetch the address of the word WANTED */
 #define LLOBATELH_QUIET 5         /* an abort with no event */
 #define LLOBATELH_UNSERVED 6      /* the case of the word CASE, which these calls do not work out */
 
@@ -120,7 +120,11 @@ typedef char llobatelh_size_has_64_bits[sizeof(size_t) == 8 ? 1 : -1];
 #define LLOBATELH_ANSWER_IPS 7   /* the effective IPS, in bits */
 #define LLOBATELH_ANSWER_TTB0 8  /* the table's address */
 #define LLOBATELH_ANSWER_EVENT 1 /* abort: one of the events below */
+#define LLOBATELH_ANSWER_WANTED 2 /* abort: with F_STE_FETCH or F_CD_FETCH the address of the descriptor that was to be fetched, else 0 */
 #define LLOBATELH_ANSWER_CASE 1  /* unserved: one of the cases below */
+
+/* The word WANTED is the address as it was computed: bits at or above the OAS are kept. Look first at whether the memory that was lent
+   holds the whole descriptor, 8 bytes or 64 from there on: what it does not hold is not fetched, also where the SMMU itself could. */
 
 /* The descriptors that were read, in order: how many, and then the address and the length of each; 0 past the last, but in a kept
    answer of a book whose words something else wrote ("The book"): go by the count. A fetch that faulted is not among them. */
@@ -172,11 +176,11 @@ typedef char llobatelh_size_has_64_bits[sizeof(size_t) == 8 ? 1 : -1];
  *     or a key that is not 0 is none of a request: 2^53 + 1 or more, or bit 20 of the request's word 0 and one below it 1;
  *     or a held slot's answer has a kind that is none; an event or a case that is not listed; an ASID of 2^16 or more, a T0SZ of 64
  *     or more, a TG0 above 3 or an EPD0 above 1; more than four pieces; or, among as many as it counts, one with address + length above 2^52.
- * So a word is refused where it has more bits than the field that it stands for; STRTAB_BASE, the addresses of an STE and a CD, TTB0 and
- * the effective IPS are numbers of a whole word, and any may stand there. Nothing is refused for being a value that no table would have
- * given: the book does not know the tables. An empty slot's answer, words that a kind does not use and pieces past the count are not
- * looked at. Of a kept answer an ask puts 0 for words that its kind does not use, and the pieces past its count as the slot has them:
- * 0, unless the caller wrote there.
+ * So a word is refused where it has more bits than the field that it stands for; STRTAB_BASE, the addresses of an STE and a CD, the one
+ * that a failed fetch wanted, TTB0 and the effective IPS are numbers of a whole word, and any may stand there. Nothing is refused for
+ * being a value that no table would have given: the book does not know the tables. An empty slot's answer, words that a kind does not
+ * use (WANTED too, where the event is no failed fetch's) and pieces past the count are not looked at. Of a kept answer an ask puts 0 for
+ * words that its kind does not use, and the pieces past its count as the slot has them: 0, unless the caller wrote there.
  */
 
 /* ---- Calls ---- */

@@ -6,6 +6,7 @@ use crate::inputs::Input;
 use crate::ordinary::Request;
 use crate::sides::{said, wrapped_registers};
 use llobatelh::{calls, header, ANSWER_WORDS};
+use std::collections::BTreeSet;
 use std::ffi::{c_char, c_int, c_void, CString};
 
 /// As include/llobatelh.h has it.
@@ -56,31 +57,28 @@ impl Build {
     /// All lookups of a set, and what was said of them as the archive's side sums it.
     #[inline(never)]
     pub fn lookups(&self, inputs: &[Input]) -> u64 {
-        self.over(inputs, |number, words| match number {
-            header::DONE => words.first_chunk::<ANSWER_WORDS>().map_or(0, fold::words),
-            number => said(number),
-        })
-    }
-
-    /// The same with every word that was lent in the sum, for comparing what two builds answer.
-    pub fn every_word(&self, inputs: &[Input]) -> u64 {
-        self.over(inputs, |number, words| {
-            words.iter().fold(number, |sum, word| {
-                sum.wrapping_mul(0x9e37_79b9_7f4a_7c15).wrapping_add(*word)
-            })
-        })
-    }
-
-    #[inline(always)]
-    fn over(&self, inputs: &[Input], read: impl Fn(u64, &[u64; ROOM]) -> u64) -> u64 {
         let mut words = [0; ROOM];
         inputs.iter().fold(0, |sum, input| {
             let registers = wrapped_registers(&input.registers);
             input.requests.iter().fold(sum, |sum, request| {
-                let number = self.one(&registers, input, *request, &mut words);
-                sum.rotate_left(1).wrapping_add(read(number, &words))
+                let read = match self.one(&registers, input, *request, &mut words) {
+                    header::DONE => words.first_chunk::<ANSWER_WORDS>().map_or(0, fold::words),
+                    number => said(number),
+                };
+                sum.rotate_left(1).wrapping_add(read)
             })
         })
+    }
+
+    /// What is said of each lookup of an input, and every word that was lent.
+    fn answers(&self, input: &Input) -> Vec<(u64, [u64; ROOM])> {
+        let registers = wrapped_registers(&input.registers);
+        let answer = |request: &Request| {
+            let mut words = [0; ROOM];
+            let number = self.one(&registers, input, *request, &mut words);
+            (number, words)
+        };
+        input.requests.iter().map(answer).collect()
     }
 
     #[inline(always)]
@@ -109,5 +107,21 @@ impl Build {
                 words.as_mut_ptr(),
             )
         }
+    }
+}
+
+/// Whether two builds answer the same. Where they don't: how many answers are others, and in which of their words.
+pub fn compared(before: &Build, now: &Build, inputs: &[Input]) -> String {
+    let (mut all, mut others, mut places) = (0, 0, BTreeSet::new());
+    for input in inputs {
+        for (before, now) in before.answers(input).iter().zip(&now.answers(input)) {
+            all += 1;
+            others += usize::from(before != now);
+            places.extend((0..ROOM).filter(|place| before.1[*place] != now.1[*place]));
+        }
+    }
+    match others {
+        0 => "the same".to_string(),
+        _ => format!("{others} others of {all}, in words {places:?}"),
     }
 }

@@ -5,7 +5,7 @@
 //! ordinary answers is left to it, and is the quicker for it.
 
 use crate::ordinary;
-use llobatelh::{header, Answer, Outcome, ANSWER_WORDS, PIECES_MOST};
+use llobatelh::{header, Answer, Event, Outcome, ANSWER_WORDS, PIECES_MOST};
 
 const COUNT: usize = header::ANSWER_COUNT as usize;
 const PIECES: usize = header::ANSWER_PIECES as usize;
@@ -40,9 +40,8 @@ pub fn words(words: &[u64; ANSWER_WORDS]) -> u64 {
             ],
             0,
         ),
-        [kind @ (header::BYPASS | header::ABORT | header::UNSERVED), value, ..] => {
-            sum([*kind, *value], 0)
-        }
+        [header::ABORT, event, wanted, ..] => sum([header::ABORT, *event, *wanted], 0),
+        [kind @ (header::BYPASS | header::UNSERVED), value, ..] => sum([*kind, *value], 0),
         [kind, ..] => sum([*kind], 0),
     };
     let count = words[COUNT];
@@ -78,6 +77,7 @@ pub fn ordinary(answer: &ordinary::Answer) -> u64 {
         ordinary::Outcome::Bypass(ste) => sum([header::BYPASS, ste], 0),
         ordinary::Outcome::GlobalBypass => sum([header::BYPASS_GLOBAL], 0),
         ordinary::Outcome::Abort(event) => sum([header::ABORT, event.into()], 0),
+        ordinary::Outcome::Fault(event, wanted) => sum([header::ABORT, event.into(), wanted], 0),
         ordinary::Outcome::Quiet => sum([header::QUIET], 0),
         ordinary::Outcome::Unserved(number) => sum([header::UNSERVED, number.into()], 0),
     };
@@ -90,6 +90,15 @@ pub fn ordinary(answer: &ordinary::Answer) -> u64 {
     values
         .wrapping_add(sum([list.count as u64], COUNT))
         .wrapping_add(pieces)
+}
+
+/// The word WANTED of an event's abort.
+#[inline(always)]
+fn wanted(event: Event) -> u64 {
+    match event {
+        Event::FSteFetch { address } | Event::FCdFetch { address } => address,
+        _ => 0,
+    }
 }
 
 #[inline(always)]
@@ -111,7 +120,7 @@ pub fn wrapped(answer: &Answer) -> u64 {
         ),
         Outcome::Bypass { ste } => sum([header::BYPASS, ste], 0),
         Outcome::GlobalBypass => sum([header::BYPASS_GLOBAL], 0),
-        Outcome::Abort(event) => sum([header::ABORT, event.number().into()], 0),
+        Outcome::Abort(event) => sum([header::ABORT, event.number().into(), wanted(event)], 0),
         Outcome::QuietAbort => sum([header::QUIET], 0),
         Outcome::Unserved(case) => sum([header::UNSERVED, case.number().into()], 0),
     };

@@ -85,15 +85,14 @@ fn two_builds(before: &str, now: &str, rounds: usize) -> Result<(), String> {
     );
     for (name, inputs) in sets() {
         let expected = [0, 1].map(|place: usize| builds[place].lookups(&inputs));
-        let same = builds[0].every_word(&inputs) == builds[1].every_word(&inputs);
+        let answers = beside::compared(&builds[0], &builds[1], &inputs);
         let times = measured(name, rounds, calls_of(&inputs), expected, |place| {
             builds[place].lookups(&inputs)
         });
         let [before, now] = medians(&times);
         println!(
-            "{name:34} {before:8.1} {now:8.1}  {:22} {}",
-            ratio(times.iter().map(|time| time[1] / time[0])),
-            if same { "the same" } else { "others" }
+            "{name:34} {before:8.1} {now:8.1}  {:22} {answers}",
+            ratio(times.iter().map(|time| time[1] / time[0]))
         );
     }
     Ok(())

@@ -41,6 +41,8 @@ pub enum Outcome {
     Bypass(u64),
     GlobalBypass,
     Abort(u8),
+    /// An abort by a fetch that failed: its event, and the address that it wanted.
+    Fault(u8, u64),
     Quiet,
     Unserved(u8),
 }
@@ -165,13 +167,13 @@ impl<'a> Walk<'a> {
         }
         let ste_address = self.ste_address(request.stream)?;
         let Some(ste) = self.fetch::<64>(ste_address) else {
-            return Break(Outcome::Abort(3));
+            return Break(Outcome::Fault(3, ste_address));
         };
         let (ste0, ste1) = (word(ste, 0), word(ste, 8));
         let index = self.read_ste(ste_address, ste0, ste1, request.substream)?;
         let cd_address = self.cd_address(ste0, index)?;
         let Some(cd) = self.fetch::<64>(cd_address) else {
-            return Break(Outcome::Abort(9));
+            return Break(Outcome::Fault(9, cd_address));
         };
         self.read_cd(ste_address, cd_address, word(cd, 0), word(cd, 8))
     }
@@ -193,8 +195,9 @@ impl<'a> Walk<'a> {
             _ => 6,
         };
         let aligned = align_down(addr, 6.max((log2size + 3).saturating_sub(split)));
-        let Some(l1std) = self.fetch::<8>(aligned + 8 * (stream >> split)) else {
-            return Break(Outcome::Abort(3));
+        let address = aligned + 8 * (stream >> split);
+        let Some(l1std) = self.fetch::<8>(address) else {
+            return Break(Outcome::Fault(3, address));
         };
         let l1std = u64::from_le_bytes(*l1std);
         let span = bits(l1std, 0, 5) as u32;
@@ -265,8 +268,9 @@ impl<'a> Walk<'a> {
             1 => 6,
             _ => 10,
         };
-        let Some(l1cd) = self.fetch::<8>(pointer + 8 * (index >> leaf)) else {
-            return Break(Outcome::Abort(9));
+        let address = pointer + 8 * (index >> leaf);
+        let Some(l1cd) = self.fetch::<8>(address) else {
+            return Break(Outcome::Fault(9, address));
         };
         let l1cd = u64::from_le_bytes(*l1cd);
         if l1cd & 1 == 0 {
@@ -424,7 +428,8 @@ impl Book {
 impl Answer {
     fn is_proper(&self) -> bool {
         let listed = match self.outcome {
-            Outcome::Abort(event) => matches!(event, 2 | 3 | 4 | 6 | 8 | 9 | 10),
+            Outcome::Abort(event) => matches!(event, 2 | 4 | 6 | 8 | 10),
+            Outcome::Fault(event, _) => matches!(event, 3 | 9),
             Outcome::Unserved(number) => matches!(number, 20..=22),
             Outcome::Translate(found) => found.t0sz < 64 && found.tg0 < 4,
             _ => true,

@@ -3,16 +3,34 @@
 //!
 //!     cargo run --example before_each_shot
 
-use llobatelh::{Book, Kept, Memory, Outcome, Refusal, Registers, Request, StreamId, REPORT_MOST};
-
-const BASE: u64 = 0x4_0000;
-const CARD: StreamId = match StreamId::new(5) {
-    Ok(id) => id,
-    Err(_) => panic!("a StreamID has 32 bits"),
+use llobatelh::{
+    Book, Event, Kept, Memory, Outcome, Refusal, Registers, Request, StreamId, REPORT_MOST,
 };
 
+const BASE: u64 = 0x4_0000;
+const CARD: StreamId = id(5);
+const OTHER_CARD: StreamId = id(100);
+
+const fn id(number: u64) -> StreamId {
+    match StreamId::new(number) {
+        Ok(id) => id,
+        Err(_) => panic!("a StreamID has 32 bits"),
+    }
+}
+
+/// Whether to fire, in words. Where a descriptor could not be fetched, what was lent is looked at first.
+fn verdict(outcome: Outcome) -> String {
+    match outcome {
+        Outcome::Bypass { .. } => "fire".to_string(),
+        Outcome::Abort(Event::FSteFetch { address } | Event::FCdFetch { address }) => {
+            format!("HOLD, and see whether {address:#x} is lent")
+        }
+        _ => "HOLD".to_string(),
+    }
+}
+
 fn main() -> Result<(), Refusal> {
-    // A linear Stream table of 64 entries; the card's STE bypasses.
+    // A linear Stream table of 128 entries, of which 64 are lent; the card's STE bypasses.
     let mut tables = [0; 4096];
     tables[5 * 64] = 0x09;
     let registers = Registers {
@@ -20,11 +38,11 @@ fn main() -> Result<(), Refusal> {
         idr5: 5,
         cr0: 1,
         strtab_base: BASE,
-        strtab_base_cfg: 6,
+        strtab_base_cfg: 7,
         ..Registers::default()
     };
     let mut book = Book::open(&registers, BASE, 4096, 8)?;
-    for shot in 1..=4 {
+    for shot in 1..=5 {
         if shot == 4 {
             // Someone edits the STE: V 0.
             tables[5 * 64] = 0;
@@ -34,8 +52,9 @@ fn main() -> Result<(), Refusal> {
             base: BASE,
             bytes: &tables,
         };
-        let (kept, answer) = book.ask(memory, Request::without(CARD))?;
-        let fire = matches!(answer.outcome(), Outcome::Bypass { .. });
+        // The last shot is another card's, and its STE is not lent.
+        let card = if shot == 5 { OTHER_CARD } else { CARD };
+        let (kept, answer) = book.ask(memory, Request::without(card))?;
         let how = match kept {
             Kept::Before => "kept before",
             Kept::Newly | Kept::Not => "looked up",
@@ -43,7 +62,7 @@ fn main() -> Result<(), Refusal> {
         println!(
             "shot {shot}: {how}, {:?}: {}",
             answer.outcome(),
-            if fire { "fire" } else { "HOLD" }
+            verdict(answer.outcome())
         );
     }
     let mut out = [0; REPORT_MOST];

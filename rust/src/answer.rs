@@ -1,7 +1,7 @@
 //! What is answered.
 
 use crate::calls;
-use crate::header::{self, numbered, of_another_interface};
+use crate::header::{self, byte, numbered, of_another_interface};
 use core::fmt;
 use core::hash::{Hash, Hasher};
 
@@ -58,17 +58,80 @@ pub struct Translation {
     pub ttb0: u64,
 }
 
-numbered! {
-    /// The event of an abort.
-    #[allow(missing_docs)] // the names are the standard's
-    Event {
-        CBadStreamid = C_BAD_STREAMID,
-        FSteFetch = F_STE_FETCH,
-        CBadSte = C_BAD_STE,
-        FStreamDisabled = F_STREAM_DISABLED,
-        CBadSubstreamid = C_BAD_SUBSTREAMID,
-        FCdFetch = F_CD_FETCH,
-        CBadCd = C_BAD_CD,
+/// The event of an abort. Those of a fetch that failed carry the address that it wanted, as it was computed: bits at or above the OAS are
+/// kept. Look first at whether the lent memory holds the whole descriptor from there on.
+///
+/// ```
+/// use llobatelh::{lookup, Event, Memory, Outcome, Registers, Request, StreamId};
+///
+/// // A linear Stream table of 128 entries at 0x4_0000, of which half is lent.
+/// let memory = Memory { base: 0x4_0000, bytes: &[0; 4096] };
+/// let registers = Registers {
+///     idr1: 16,
+///     idr5: 5,
+///     cr0: 1,
+///     strtab_base: 0x4_0000,
+///     strtab_base_cfg: 7,
+///     ..Registers::default()
+/// };
+/// let answer = lookup(&registers, memory, Request::without(StreamId::from(64)))?;
+/// assert_eq!(answer.outcome(), Outcome::Abort(Event::FSteFetch { address: 0x4_1000 }));
+/// # Ok::<(), llobatelh::Refusal>(())
+/// ```
+#[allow(missing_docs)] // the names are the standard's
+#[derive(Clone, Copy, Debug, PartialEq, Eq, PartialOrd, Ord, Hash)]
+pub enum Event {
+    CBadStreamid,
+    FSteFetch {
+        /// The address of the L1STD or the STE that was to be fetched.
+        address: u64,
+    },
+    CBadSte,
+    FStreamDisabled,
+    CBadSubstreamid,
+    FCdFetch {
+        /// The address of the L1CD or the CD that was to be fetched.
+        address: u64,
+    },
+    CBadCd,
+}
+
+impl Event {
+    /// Its number.
+    #[inline]
+    pub const fn number(self) -> u8 {
+        match self {
+            Event::CBadStreamid => const { byte(header::C_BAD_STREAMID) },
+            Event::FSteFetch { .. } => const { byte(header::F_STE_FETCH) },
+            Event::CBadSte => const { byte(header::C_BAD_STE) },
+            Event::FStreamDisabled => const { byte(header::F_STREAM_DISABLED) },
+            Event::CBadSubstreamid => const { byte(header::C_BAD_SUBSTREAMID) },
+            Event::FCdFetch { .. } => const { byte(header::F_CD_FETCH) },
+            Event::CBadCd => const { byte(header::C_BAD_CD) },
+        }
+    }
+
+    /// The event of an abort's words EVENT and WANTED. The second is looked at for a failed fetch alone.
+    ///
+    /// ```
+    /// use llobatelh::{header, Event};
+    ///
+    /// assert_eq!(Event::from_words(header::F_CD_FETCH, 0x1_0000), Some(Event::FCdFetch { address: 0x1_0000 }));
+    /// assert_eq!(Event::from_words(header::C_BAD_CD, 0x1_0000), Some(Event::CBadCd));
+    /// assert_eq!(Event::from_words(0x05, 0), None);
+    /// ```
+    #[inline]
+    pub const fn from_words(event: u64, wanted: u64) -> Option<Event> {
+        match event {
+            header::C_BAD_STREAMID => Some(Event::CBadStreamid),
+            header::F_STE_FETCH => Some(Event::FSteFetch { address: wanted }),
+            header::C_BAD_STE => Some(Event::CBadSte),
+            header::F_STREAM_DISABLED => Some(Event::FStreamDisabled),
+            header::C_BAD_SUBSTREAMID => Some(Event::CBadSubstreamid),
+            header::F_CD_FETCH => Some(Event::FCdFetch { address: wanted }),
+            header::C_BAD_CD => Some(Event::CBadCd),
+            _ => None,
+        }
     }
 }
 
@@ -120,7 +183,9 @@ impl Answer {
                 ste: word(header::ANSWER_STE),
             },
             header::BYPASS_GLOBAL => Outcome::GlobalBypass,
-            header::ABORT => Outcome::Abort(expect(word(header::ANSWER_EVENT), Event::from_number)),
+            header::ABORT => Outcome::Abort(expect(word(header::ANSWER_EVENT), |event| {
+                Event::from_words(event, word(header::ANSWER_WANTED))
+            })),
             header::QUIET => Outcome::QuietAbort,
             header::UNSERVED => {
                 Outcome::Unserved(expect(word(header::ANSWER_CASE), Unserved::from_number))
@@ -144,7 +209,7 @@ impl Answer {
         &self.words
     }
 
-    /// The words that say something. Past the list a book that was put together by hand may have anything.
+    /// The words that say something, a failed fetch's address among them. Past the list a book that was put together by hand may have anything.
     fn telling(&self) -> &[u64] {
         &self.words[..header::answer_address(self.list().len() as u64) as usize]
     }

@@ -42,7 +42,7 @@ pub const REPORT_MOST: usize = header::REPORT_MOST as usize;
 ///
 /// let mut out = [0; REPORT_MOST];
 /// let length = book.report(&mut out)?;
-/// assert_eq!(&out[..length], b"slot\tstream\tsubstream\toutcome\tevent\n0\t00000005\t-\tquiet\t-\n");
+/// assert_eq!(&out[..length], b"slot\tstream\tsubstream\toutcome\tevent\taddress\n0\t00000005\t-\tquiet\t-\t-\n");
 /// # Ok::<(), llobatelh::Refusal>(())
 /// ```
 #[derive(Clone, Copy, Debug, PartialEq, Eq)]

@@ -77,6 +77,16 @@ pub fn with(stream: u32, substream: u64) -> Request {
     Request::with(stream.into(), SubstreamId::as_handed(substream))
 }
 
+/// An abort by an L1STD or an STE that is not fetched, and where it would have been.
+pub fn no_ste(address: u64) -> Outcome {
+    Outcome::Abort(Event::FSteFetch { address })
+}
+
+/// The same of an L1CD or a CD.
+pub fn no_cd(address: u64) -> Outcome {
+    Outcome::Abort(Event::FCdFetch { address })
+}
+
 /// The list as pairs of address and length.
 pub fn list(answer: &Answer) -> Vec<(u64, u64)> {
     let pieces = answer.list().iter();

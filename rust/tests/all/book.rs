@@ -28,8 +28,12 @@ fn what_is_kept_is_what_is_looked_up() {
     let mut bench = stage_1(1);
     bench.put(0xC008, 0xA000 | 1);
     bench.put(0xA180, CD_WORD);
+    bench.put(0x8010, 0x1_0000 | 1);
+    bench.put(0xC010, 0x2_0000 | 1);
     let mut book = bench.open(64).unwrap();
     let requests = [
+        without(512),
+        with(768, 128),
         without(0),
         without(256),
         without(260),
@@ -73,7 +77,7 @@ fn the_report_of_document_01() {
     for stream in [256, 260] {
         book.ask(bench.memory(), without(stream)).unwrap();
     }
-    let text = b"slot\tstream\tsubstream\toutcome\tevent\n0\t00000100\t-\tbypass\t-\n1\t00000104\t-\tabort\t02\n";
+    let text = b"slot\tstream\tsubstream\toutcome\tevent\taddress\n0\t00000100\t-\tbypass\t-\t-\n1\t00000104\t-\tabort\t02\t-\n";
     let mut out = [0xA5; REPORT_MOST];
     assert_eq!(book.report(&mut out), Ok(text.len()));
     assert_eq!(&out[..text.len()], text);
@@ -83,7 +87,36 @@ fn the_report_of_document_01() {
     let mut book = bench.open(2).unwrap();
     book.ask(bench.memory(), without(260)).unwrap();
     let length = book.report(&mut out).unwrap();
-    assert!(out[..length].ends_with(b"0\t00000104\t-\tunrecorded\t02\n"));
+    assert!(out[..length].ends_with(b"0\t00000104\t-\tunrecorded\t02\t-\n"));
+}
+
+#[test]
+fn a_report_has_the_address_that_a_failed_fetch_wanted() {
+    let mut bench = stage_1(1);
+    bench.put(0x8010, 0x1_0000 | 1);
+    bench.put(0xC008, 1 << 55 | 0xA000 | 1);
+    let mut book = bench.open(2).unwrap();
+    for request in [without(512), with(768, 70)] {
+        book.ask(bench.memory(), request).unwrap();
+    }
+    let mut out = [0; REPORT_MOST];
+    let length = book.report(&mut out).unwrap();
+    let lines = b"\n0\t00000200\t-\tabort\t03\t0000000000010000\n1\t00000300\t00046\tabort\t09\t008000000000a180\n";
+    assert!(out[..length].ends_with(lines));
+}
+
+#[test]
+fn an_edit_that_moves_a_failed_fetch_is_stale_until_its_notice() {
+    let mut bench = figure();
+    bench.put(0x8010, 0x1_0000 | 1);
+    let mut book = bench.open(1).unwrap();
+    book.ask(bench.memory(), without(512)).unwrap();
+    bench.put(0x8010, 0x2_0000 | 1);
+    let (kept, stale) = book.ask(bench.memory(), without(512)).unwrap();
+    assert_eq!((kept, stale.outcome()), (Kept::Before, no_ste(0x1_0000)));
+    book.notice(0x8010, 8).unwrap();
+    let (kept, told) = book.ask(bench.memory(), without(512)).unwrap();
+    assert_eq!((kept, told.outcome()), (Kept::Newly, no_ste(0x2_0000)));
 }
 
 #[test]

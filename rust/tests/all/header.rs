@@ -21,11 +21,34 @@ fn defined(header: &str, name: &str) -> u64 {
     .unwrap_or_else(|_| panic!("{name}: {word}"))
 }
 
+/// All of them, by their numbers.
+const EVENTS: [Event; 7] = [
+    Event::CBadStreamid,
+    Event::FSteFetch { address: 7 },
+    Event::CBadSte,
+    Event::FStreamDisabled,
+    Event::CBadSubstreamid,
+    Event::FCdFetch { address: 7 },
+    Event::CBadCd,
+];
+
+#[test]
+fn an_event_is_read_of_its_words() {
+    for event in EVENTS {
+        let number = u64::from(event.number());
+        assert_eq!(Event::from_words(number, 7), Some(event));
+        assert_eq!(Event::from_words(number + 0x100, 7), None);
+    }
+    let others = (0..=0x20).filter(|number| Event::from_words(*number, 7).is_none());
+    assert_eq!(others.count(), 0x21 - EVENTS.len());
+    assert!(EVENTS.windows(2).all(|pair| pair[0] < pair[1]));
+}
+
 #[test]
 fn numbers_are_the_headers() {
     let header = Path::new(env!("CARGO_MANIFEST_DIR")).join("../include/llobatelh.h");
     let header = std::fs::read_to_string(header).unwrap();
-    let events = Event::ALL.map(|event| u64::from(event.number()));
+    let events = EVENTS.map(|event| u64::from(event.number()));
     let cases = Unserved::ALL.map(|case| u64::from(case.number()));
     let refusals = Refusal::ALL.map(|refusal| u64::from(refusal.number()));
     let kept = Kept::ALL.map(|kept| u64::from(kept.number()));
@@ -35,6 +58,8 @@ fn numbers_are_the_headers() {
         ("PIECES_MOST", PIECES_MOST as u64),
         ("STE_BYTES", STE_BYTES as u64),
         ("REGISTERS", REGISTERS as u64),
+        ("ANSWER_EVENT", header::ANSWER_EVENT),
+        ("ANSWER_WANTED", header::ANSWER_WANTED),
         ("C_BAD_STREAMID", events[0]),
         ("F_STE_FETCH", events[1]),
         ("C_BAD_STE", events[2]),
@@ -61,7 +86,7 @@ fn numbers_are_the_headers() {
         assert_eq!(defined(&header, name), number, "{name}");
     }
     assert_eq!(header::NO_PART, u64::MAX);
-    assert_eq!(REPORT_MOST as u64, 36 + 32 * SLOTS_MOST);
+    assert_eq!(REPORT_MOST as u64, 44 + 44 * SLOTS_MOST);
     assert_eq!(header::book_answer(SLOTS_MOST), BOOK_WORDS as u64);
     assert_eq!(
         header::answer_address(header::PIECES_MOST),

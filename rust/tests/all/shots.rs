@@ -52,6 +52,48 @@ fn p10_a_notice_of_one_byte_strikes_both_that_share_an_ste() {
     assert_eq!(ask(&mut book, 188).0, Kept::Newly);
 }
 
+/// What a request gets there, and its list.
+fn looked_up(bench: &Bench, request: Request) -> (Outcome, Vec<(u64, u64)>) {
+    let answer = bench.lookup(request).unwrap();
+    (answer.outcome(), list(&answer))
+}
+
+#[test]
+fn the_last_ste_of_the_memory_is_fetched_and_the_one_past_it_is_not() {
+    let mut bench = figure();
+    bench.put(0x8018, 0xFFC0 | 1);
+    bench.put(0xFFC0, 0x09);
+    let found = (bypass(0xFFC0), vec![(0x8018, 8), (0xFFC0, 64)]);
+    assert_eq!(looked_up(&bench, without(768)), found);
+    bench.put(0x8018, 0x1_0000 | 1);
+    let faulted = (no_ste(0x1_0000), vec![(0x8018, 8)]);
+    assert_eq!(looked_up(&bench, without(768)), faulted);
+}
+
+#[test]
+fn each_fetch_that_fails_says_the_address_that_it_wanted() {
+    /// Above the OAS of 48 bits.
+    const ABOVE: u64 = 1 << 55;
+    let mut bench = stage_1(1);
+    bench.put(0xC008, ABOVE | 0xA000 | 1);
+    let read = [(0x8018, 8), (0x4000, 64), (0xC008, 8)];
+    let cd = (no_cd(ABOVE | 0xA180), read.to_vec());
+    assert_eq!(looked_up(&bench, with(768, 70)), cd);
+    // The L1CD ends one byte past the memory; the STE lies past it; the L1STD lies below its base.
+    bench.bytes.truncate(0xC00F);
+    let l1cd = (no_cd(0xC008), read[..2].to_vec());
+    assert_eq!(looked_up(&bench, with(768, 70)), l1cd);
+    bench.put(0x8018, 0xC040 | 1);
+    let ste = (no_ste(0xC040), read[..1].to_vec());
+    assert_eq!(looked_up(&bench, with(768, 70)), ste);
+    bench.base = 0x8040;
+    let l1std = (no_ste(0x8018), vec![]);
+    assert_eq!(looked_up(&bench, with(768, 70)), l1std);
+    bench.registers.strtab_base |= ABOVE;
+    let l1std = (no_ste(ABOVE | 0x8018), vec![]);
+    assert_eq!(looked_up(&bench, with(768, 70)), l1std);
+}
+
 /// A CD of `CD_WORD` there.
 fn translation(cd: u64) -> Outcome {
     Outcome::Translate(Translation {

@@ -32,13 +32,17 @@ fn registers_are_lent_as_they_stand() {
 }
 
 /// Tables with a stream of each outcome but the unserved ones, and the requests.
-fn several() -> (Bench, [Request; 6]) {
+fn several() -> (Bench, [Request; 8]) {
     let mut bench = stage_1(1);
     bench.put(0xC008, 0xA000 | 1);
     bench.put(0xA180, CD_WORD);
     bench.put(0x3FC0, 0x01);
+    bench.put(0x8010, 0x1_0000 | 1);
+    bench.put(0xC010, 0x2_0000 | 1);
     let requests = [
         with(768, 70),
+        without(512),
+        with(768, 128),
         without(0),
         without(255),
         without(260),
@@ -87,6 +91,46 @@ fn equal_answers_are_equal_and_others_are_not() {
         assert_eq!(format!("{one:?}"), said);
     }
     assert_eq!(HashSet::from(answers).len(), answers.len());
+}
+
+#[test]
+fn answers_that_differ_in_a_failed_fetchs_address_alone_are_others() {
+    let mut bench = figure();
+    let mut put = |l2ptr: u64| {
+        bench.put(0x8010, l2ptr | 1);
+        bench.lookup(without(512)).unwrap()
+    };
+    let [one, other] = [put(0x1_0000), put(0x2_0000)];
+    assert_eq!(one.outcome(), no_ste(0x1_0000));
+    assert_eq!(other.outcome(), no_ste(0x2_0000));
+    assert_eq!(one.list(), other.list());
+    assert_ne!(one, other);
+    assert_ne!(format!("{one:?}"), format!("{other:?}"));
+    assert_eq!(HashSet::from([one, other]).len(), 2);
+}
+
+#[test]
+fn a_kept_address_may_be_any_number_and_another_event_has_none() {
+    let mut bench = figure();
+    bench.put(0x8010, 0x1_0000 | 1);
+    let mut book = bench.open(2).unwrap();
+    let streams = [512, 260].map(without);
+    let [_, plain] = streams.map(|request| book.ask(bench.memory(), request).unwrap().1);
+    for address in [0, 1, u64::MAX] {
+        let mut words = *book.words();
+        for slot in [0, 1] {
+            words[(header::book_answer(slot) + header::ANSWER_WANTED) as usize] = address;
+        }
+        let mut book = Book::from_words(words);
+        let [fault, other] = streams.map(|request| book.ask(bench.memory(), request).unwrap());
+        assert_eq!(
+            (fault.0, fault.1.outcome()),
+            (Kept::Before, no_ste(address))
+        );
+        assert_eq!(other, (Kept::Before, plain));
+        assert_eq!(other.1.words(), plain.words());
+        assert_eq!(book.words(), &words);
+    }
 }
 
 #[test]
