@@ -5,12 +5,12 @@
 --     outcome_again                      an outcome that was read is read again
 --     stands_proper                      the words of a proper answer stand
 --     outcome_proper, stands_count       of words that stand: the outcome is proper, there are at most as many pieces as a list has
---     of_translate .. of_quiet           the outcome by the words' kind; of-fault, of_other: an abort by its event
+--     of_translate .. of_quiet           the outcome by the words' kind; of_fault, of_other: an abort by its event
 --     low_kind, high_kind, outcome_unfit, list_decides  the tests of `stands` in order
 --     put_words                          an outcome put before a list: the words of both
 --     put_translate .. put_unserved      what is put, by the outcome's cases
 -- Assumes: nothing.
-use Prim.Native.Nat.{ℕ, ◌+◌, ◌-◌, ◌≤◌, ◌<◌}
+use Prim.Native.Nat.{ℕ, ◌+◌, ◌≤◌, ◌<◌}
 use native.Mathlib.Nat.{add-zero}
 use native.Mathlib.Omega.{arith}
 use mathlib.Core.Path.{◌≡◌, refl, sym, ap, ◌∙◌}
@@ -22,7 +22,7 @@ use lib.ListN.{length, get_or, length-append}
 use lib.Seq.{get_or-append-add}
 use Rattle.number_laws.proofs.Tests.{both}
 use Rattle.placed.specs.From.{values_from}
-use Rattle.bit_fields.specs.Choice.{if◌then◌else◌}
+use Rattle.std.specs.Prelude.{if◌then◌else◌}
 use Rattle.bit_fields.proofs.ChoiceLaws.{either}
 use Rattle.memory_image.specs.declared.Piece.{Piece}
 use Rattle.answers.specs.Layout.{values_most, pieces_most, answer_words, kind_at, values_at}
@@ -85,7 +85,9 @@ behind front (p ∷ ps) =
     let longer : front ++ (p.address ∷ (p.length ∷ piece_numbers ps)) ≡ (front ++ (p.address ∷ (p.length ∷ []))) ++ piece_numbers ps
     = sym (append_assoc front (p.address ∷ (p.length ∷ [])) (piece_numbers ps)) in
     let on : length front + 2 ≡ length (front ++ (p.address ∷ (p.length ∷ []))) = sym (length-append front (p.address ∷ (p.length ∷ []))) in
-    rw (here, next, longer, on) (ap (λ (rest : List Piece). p ∷ rest) (behind (front ++ (p.address ∷ (p.length ∷ []))) ps))
+    let rest = behind (front ++ (p.address ∷ (p.length ∷ []))) ps in
+    let after : pieces_in (front ++ (p.address ∷ (p.length ∷ piece_numbers ps))) (length ps) (length front + 2) ≡ ps = cc in
+    rw (here, next) (ap (λ (rest : List Piece). p ∷ rest) after)
 
 pub list_back : (o : Outcome) (l : Pieces) → length l.piece ≡ pieces_most → list_of (words_of o l) ≡ l
 unfolding words_of laid_out list_of values_from

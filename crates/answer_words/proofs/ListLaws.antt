@@ -52,7 +52,7 @@ module _ (ws : List ℕ) where
     pub taken_more :
         i < pieces_most → {address size : ℕ} → address ≡ get_or ws (pieces_at + 2 * i) 0 → size ≡ get_or ws (pieces_at + 2 * i + 1) 0
         → Taken (set piece i (record { address = address; length = size })) (i + 1)
-    taken_more more {address} {size} is_Address is_size =
+    taken_more more {address} {size} is_address is_size =
         record {
           few = omega arith;
           room = length-set piece i (record { address = address; length = size }) ∙ so_far.room;
@@ -66,7 +66,7 @@ module _ (ws : List ℕ) where
             let here : k ≡ i = eqb-true k i same in
             rw here
             (get_or-set_same piece i (record { address = address; length = size }) nothing (omega (arith, so_far.room))
-            ∙ rw (is_Address, is_size))
+            ∙ rw (is_address, is_size))
         go k less false differ =
             let other = eqb-false k i differ in
             get_or-set_other piece i k (record { address = address; length = size }) nothing other ∙ so_far.each k (omega (arith, other))

@@ -6,9 +6,8 @@
 --     aborted, own_event    an abort by its event, and whether an outcome's event is one of its case
 -- Ours: all of it; a kind that is none reads as a quiet abort, and does not stand.
 -- Assumes: nothing.
-use Rattle.std.specs.Prelude.{ℕ, zero, suc, ◌+◌, Bool, true, not, ◌&&◌, List, [], ◌∷◌, ◌++◌, eqb, leb, get_or, set}
+use Rattle.std.specs.Prelude.{ℕ, zero, suc, ◌+◌, Bool, true, not, ◌&&◌, List, [], ◌∷◌, ◌++◌, eqb, leb, get_or, set, if◌then◌else◌}
 use Rattle.placed.specs.From.{from}
-use Rattle.bit_fields.specs.Choice.{if◌then◌else◌}
 use Rattle.memory_image.specs.declared.Piece.{Piece}
 use Rattle.answers.specs.Layout.{values_most, pieces_most, kind_at, values_at, count_at, pieces_at}
 use Rattle.answers.specs.Outcome.{fetch_event}

@@ -1,6 +1,8 @@
 // An answer's words: what they stand for, and how an outcome and a list get into them. Start at `outcome_of`.
 // Meets specs/AnswerWords.antt; where each word stands is in answers. The outcome's words are in outcome.rt; what a kept
 // answer must have is tested in proper.rt.
+#![tactic(auto)]
+
 ghost use Rattle.std.specs.Prelude.{◌≡◌};
 ghost use Rattle.answer_words.specs.AnswerWords.{list_of, outcome_of, stands, words_of};
 

@@ -88,7 +88,9 @@ words_from_lem front (p ∷ ps) =
     let here : get_or (front ++ (p ∷ ps)) (length front) nothing ≡ p = rw add-zero at (get_or-append-add front (p ∷ ps) 0 nothing) in
     let longer : front ++ (p ∷ ps) ≡ (front ++ (p ∷ [])) ++ ps = sym (append_assoc front (p ∷ []) ps) in
     let on : length front + 1 ≡ length (front ++ (p ∷ [])) = sym (length-append front (p ∷ [])) in
-    rw (here, longer, on) (ap (λ (rest : List ℕ). p.address ∷ (p.length ∷ rest)) (words_from_lem (front ++ (p ∷ [])) ps))
+    let rest = words_from_lem (front ++ (p ∷ [])) ps in
+    let after : piece_words (front ++ (p ∷ ps)) (length ps) (length front + 1) ≡ piece_numbers ps = cc in
+    rw here (ap (λ (rest : List ℕ). p.address ∷ (p.length ∷ rest)) after)
 
 pub words_numbers : (ps : List Piece) → length ps ≡ pieces_most → piece_words ps pieces_most 0 ≡ piece_numbers ps
 words_numbers ps is = rw is at (words_from_lem [] ps)

@@ -10,7 +10,6 @@ use mathlib.Core.Path.{◌≡◌, refl}
 use mathlib.Core.Bool.{Bool, true, false, ◌||◌}
 use borrow.Author.Tests.{eqb-true, lt-ltb, le-leb, leb-true}
 use lib.Dec.{eqb}
-use lib.ListN.{length}
 use Rattle.number_laws.proofs.Tests.{both}
 use Rattle.placed.proofs.FromLaws.{all_every}
 use Rattle.memory_image.specs.declared.Piece.{Piece}

@@ -5,8 +5,7 @@
 --     only_list           the words of a list and of nothing else
 --     push_piece          one piece more in an answer's words
 -- Assumes: nothing.
-use Rattle.std.specs.Prelude.{ℕ, zero, suc, ◌+◌, ◌*◌, ◌<◌, List, [], ◌∷◌, ◌++◌, ltb, length, get_or, set, replicate}
-use Rattle.bit_fields.specs.Choice.{if◌then◌else◌}
+use Rattle.std.specs.Prelude.{ℕ, zero, suc, ◌+◌, ◌*◌, ◌<◌, List, [], ◌∷◌, ◌++◌, ltb, length, get_or, set, replicate, if◌then◌else◌}
 use Rattle.memory_image.specs.declared.Piece.{Piece}
 use Rattle.answers.specs.Layout.{pieces_most, count_at, pieces_at}
 use Rattle.answers.specs.declared.Pieces.{Pieces}

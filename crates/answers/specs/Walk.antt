@@ -2,8 +2,7 @@
 --     Walks     what a function that walks by a rule gives, and leaves in the words: start here
 --     run_in    what a rule gives, and the words as the list in them grows
 -- Assumes: nothing.
-use Rattle.std.specs.Prelude.{ℕ, ◌-◌, ◌*◌, ◌≡◌, List}
-use Rattle.bit_fields.specs.Choice.{if◌then◌else◌}
+use Rattle.std.specs.Prelude.{ℕ, ◌-◌, ◌*◌, ◌≡◌, List, if◌then◌else◌}
 use Rattle.memory_image.specs.Extent.{Extent, extent_of, end_of, fetched}
 use Rattle.memory_image.specs.Words.{bytes}
 use Rattle.memory_image.specs.Rule.{Rule, done, fetch, descriptor, words_at}

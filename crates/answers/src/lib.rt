@@ -1,6 +1,8 @@
 // What a lookup answers, and the list of the descriptors that it read. Start at `Outcome`.
 // Meets specs/Outcome.antt, which has the rules' numbers, and specs/Pieces.antt; where the words of an answer stand is
 // in specs/Layout.antt too.
+#![tactic(auto)]
+
 ghost use Rattle.std.specs.Prelude.{◌≡◌};
 ghost use Rattle.answers.specs.Outcome.{fetch_event, recorded};
 ghost use Rattle.answers.specs.Pieces.{none, push_piece};
@@ -32,7 +34,7 @@ pub const STREAM_WORLD: u64 = 22;
 
 // A stage 1 configuration: where it was found, and the fields of its CD as they are stored. `ips` is the
 // effective size in bits.
-#[derive(Drop)]
+#[derive(Clone, Copy)]
 pub struct Translation {
     pub ste: u64,
     pub cd: u64,
@@ -44,7 +46,7 @@ pub struct Translation {
     pub ttb0: u64,
 }
 
-#[derive(Drop)]
+#[derive(Clone, Copy)]
 pub enum Outcome {
     Translate(Translation),
     // By the STE at this address.
@@ -102,7 +104,7 @@ pub const ANSWER_WORDS: usize = COUNT_AT + LIST_WORDS;
 
 // The descriptors read, in order: the first `count` of the array. Zeros follow them, but in a list of words that
 // something else wrote: whoever reads a list goes by its count.
-#[derive(Drop)]
+#[derive(Clone, Copy)]
 pub struct Pieces {
     pub count: u64,
     pub piece: [Piece; PIECES_MOST],

@@ -9,7 +9,7 @@ use mathlib.Core.Path.{◌≡◌, refl}
 use mathlib.Core.Bool.{Bool, true, false}
 use borrow.Author.Tests.{lt-ltb, le-ltb, le-leb, lt-leb, eq-eqb, ne_eqb}
 use lib.Dec.{eqb, leb, ltb}
-use Rattle.bit_fields.specs.Choice.{if◌then◌else◌}
+use Rattle.std.specs.Prelude.{if◌then◌else◌}
 
 module _ {A : Type 0} (first second : A) (a b : ℕ) where
   pub if_lt : a < b → first ≡ (if ltb a b then first else second)

@@ -1,3 +1,2 @@
 -- What the contracts of this crate and of those above it cite.
-pub mod Choice
 pub mod Bits

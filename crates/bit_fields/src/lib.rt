@@ -1,6 +1,8 @@
 // Bits of numbers: a field of a word, powers of two, aligning down; and small steps that rules take.
 // Start at `field`.
 // Meets specs/Bits.antt, for every number of bits: nothing has to be checked first.
+#![tactic(auto)]
+
 ghost use Rattle.std.specs.Prelude.{◌≡◌, ◌&&◌, ◌-◌, min, max};
 ghost use Rattle.bit_fields.specs.Bits.{PartOf, aligned_down, field, high, in_bits, low, power};
 

@@ -163,20 +163,20 @@ module _ (ws : List ℕ) (base : ℕ) (memory : List ℕ) {request handed : Requ
             book = simp (← is_bad, good, ← is_other, same, ← is_third, so);
           })
 
-      module _ (passed : third ≡ false) {word slot : ℕ} (is_IsWord : word ≡ packed request)
+      module _ (passed : third ≡ false) {word slot : ℕ} (is_word : word ≡ packed request)
           (found : slot ≡ first_from ws (word + 1) (slots_of ws) 0) where
         pub ask_held :
             slot < slots_of ws → {block : List ℕ} → block ≡ block_at ws slot → {after : List ℕ} → after ≡ words_of (outcome_of block) (list_of block)
             → AsksBook ws base memory handed before kept_before ws after
         unfolding ask_result ask_book ask_says ask_put
-        ask_held held is_Block put =
+        ask_held held is_block put =
             rw (← is_request)
             (record {
-              result = simp (← is_bad, good, ← is_other, same, ← is_third, passed, ← is_IsWord, ← found, lt-ltb _ _ held);
+              result = simp (← is_bad, good, ← is_other, same, ← is_third, passed, ← is_word, ← found, lt-ltb _ _ held);
               words =
                   put
-                  ∙ rw is_Block (simp (← is_bad, good, ← is_other, same, ← is_third, passed, ← is_IsWord, ← found, lt-ltb _ _ held));
-              book = simp (← is_bad, good, ← is_other, same, ← is_third, passed, ← is_IsWord, ← found, lt-ltb _ _ held);
+                  ∙ rw is_block (simp (← is_bad, good, ← is_other, same, ← is_third, passed, ← is_word, ← found, lt-ltb _ _ held));
+              book = simp (← is_bad, good, ← is_other, same, ← is_third, passed, ← is_word, ← found, lt-ltb _ _ held);
             })
 
         pub ask_new :
@@ -189,11 +189,11 @@ module _ (ws : List ℕ) (base : ℕ) (memory : List ℕ) {request handed : Requ
             rw (← is_request)
             (record {
               result =
-                  keeps.result ∙ simp (← is_bad, good, ← is_other, same, ← is_third, passed, ← is_IsWord, ← found, le-ltb _ _ past);
+                  keeps.result ∙ simp (← is_bad, good, ← is_other, same, ← is_third, passed, ← is_word, ← found, le-ltb _ _ past);
               words =
-                  keeps.words ∙ simp (← is_bad, good, ← is_other, same, ← is_third, passed, ← is_IsWord, ← found, le-ltb _ _ past);
+                  keeps.words ∙ simp (← is_bad, good, ← is_other, same, ← is_third, passed, ← is_word, ← found, le-ltb _ _ past);
               book =
-                  keeps.book ∙ simp (← is_bad, good, ← is_other, same, ← is_third, passed, ← is_IsWord, ← found, le-ltb _ _ past);
+                  keeps.book ∙ simp (← is_bad, good, ← is_other, same, ← is_third, passed, ← is_word, ← found, le-ltb _ _ past);
             })
 
 -- a request's word has 53 bits

@@ -8,7 +8,7 @@
 use Prim.Native.Nat.{ℕ, ◌+◌, ◌-◌, ◌≤◌, ◌<◌, min, max, zero, suc}
 use native.Mathlib.Omega.{arith}
 use Rattle.number_laws.proofs.Tests.{not_both}
-use Rattle.bit_fields.specs.Choice.{if◌then◌else◌}
+use Rattle.std.specs.Prelude.{if◌then◌else◌}
 use Rattle.answers.specs.Pieces.{nothing}
 use mathlib.Core.Path.{◌≡◌, refl, sym, ◌∙◌}
 use mathlib.Core.Bool.{Bool, true, false, ◌&&◌}
@@ -86,7 +86,7 @@ module _ (ws : List ℕ) (start size i : ℕ) where
       (key_at ws i ≡ 0 → ⊥) → {block : List ℕ} → block ≡ block_at ws i → {list : Pieces} → list ≡ list_of block
       → {r : Bool} → r ≡ shared_from start size list.piece (min list.count pieces_most) 0 → r ≡ touched ws start size i
   unfolding touched
-  touch_held held is_Block is_list is = rw (is, is_list, is_Block) (simp (ne_eqb _ _ held))
+  touch_held held is_block is_list is = rw (is, is_list, is_block) (simp (ne_eqb _ _ held))
 
   module _ {r : Bool} (is : r ≡ touched ws start size i) where
     pub strike_hit : r ≡ true → set ws (keys_from + i) 0 ≡ strike ws start size i

@@ -10,7 +10,7 @@ use mathlib.Core.Bool.{Bool, true, false}
 use mathlib.Core.List.{List}
 use lib.ListN.{get_or}
 use Rattle.number_laws.proofs.Scans.{left_none, left_one}
-use Rattle.bit_fields.specs.Choice.{if◌then◌else◌}
+use Rattle.std.specs.Prelude.{if◌then◌else◌}
 use Rattle.memory_image.specs.declared.Piece.{Piece}
 use Rattle.answers.specs.Layout.{pieces_most}
 use Rattle.answers.specs.Pieces.{nothing}

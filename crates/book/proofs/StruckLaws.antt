@@ -12,7 +12,7 @@ use borrow.Author.Tests.{eqb-true, eqb-false}
 use lib.Dec.{eqb}
 use lib.ListN.{length, get_or, set, length-set}
 use lib.Seq.{get_or-set_other}
-use Rattle.bit_fields.specs.Choice.{if◌then◌else◌}
+use Rattle.std.specs.Prelude.{if◌then◌else◌}
 use Rattle.ids.specs.Packing.{unpacked}
 use Rattle.book_words.specs.Layout.{slots_most, keys_from, key_at, block_at}
 use Rattle.book_words.proofs.KeptLaws.{block_same}

@@ -4,8 +4,7 @@
 --     asked_of          the reply and the list that a number and an answer's words stand for
 -- Ours: 100, 101 and 102 for an ask's answer, which are no refusal's number.
 -- Assumes: nothing.
-use Rattle.std.specs.Prelude.{ℕ, ◌≡◌, Bool, List, eqb, ltb, length}
-use Rattle.bit_fields.specs.Choice.{if◌then◌else◌}
+use Rattle.std.specs.Prelude.{ℕ, ◌≡◌, Bool, List, eqb, ltb, length, if◌then◌else◌}
 use Rattle.ids.specs.declared.Request.{Request}
 use Rattle.answers.specs.declared.Outcome.{Outcome}
 use Rattle.answers.specs.declared.Pieces.{Pieces}

@@ -1,6 +1,8 @@
 // The book of kept answers: open, ask, notice. Start at `ask`.
 // Meets specs/Book.antt, over the words of book_words. A refused call leaves every word. An ask on plain numbers is in
 // into.rt.
+#![tactic(auto)]
+
 ghost use Rattle.std.specs.Prelude.{◌≡◌};
 ghost use Rattle.book.specs.Book.{Asks, Noticed, Opened};
 ghost use Rattle.book.specs.Into.{asked_of};
@@ -14,14 +16,14 @@ pub mod into;
 mod strike;
 
 // What a call without an answer of its own says.
-#[derive(Drop)]
+#[derive(Clone, Copy)]
 pub enum Said {
     Done,
     Refused(u64),
 }
 
 // What an ask gives: a refusal's number, or the answer and whether it was kept.
-#[derive(Drop)]
+#[derive(Clone, Copy)]
 pub enum Reply {
     Refused(u64),
     KeptBefore(Outcome),
@@ -30,7 +32,7 @@ pub enum Reply {
 }
 
 // An ask's reply, with the descriptors that its answer was read from.
-#[derive(Drop)]
+#[derive(Clone, Copy)]
 pub struct Asked {
     pub reply: Reply,
     pub list: Pieces,

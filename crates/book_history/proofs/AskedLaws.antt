@@ -15,7 +15,7 @@ use borrow.Author.Tests.{lt-ltb, ltb-true, ltb-false}
 use lib.Dec.{ltb}
 use lib.ListN.{length, get_or, set}
 use lib.Seq.{get_or-set_other}
-use Rattle.bit_fields.specs.Choice.{if◌then◌else◌}
+use Rattle.std.specs.Prelude.{if◌then◌else◌}
 use Rattle.number_laws.proofs.Tests.{not_both}
 use Rattle.bit_fields.proofs.ChoiceLaws.{by_test, either}
 use Rattle.ids.specs.Ids.{refusal3}

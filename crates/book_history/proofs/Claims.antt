@@ -4,7 +4,6 @@ use Prim.Native.Nat.{◌+◌, ◌<◌, min, max}
 use native.Mathlib.Omega.{arith}
 use mathlib.Core.Path.{◌≡◌, sym, ◌∙◌}
 use borrow.Author.Tests.{lt-ltb, ltb-true}
-use lib.ListN.{length}
 use Rattle.book_words.specs.Layout.{opened_with}
 use Rattle.book_words.proofs.WellLaws.{well_from_lem}
 use Rattle.book_words.proofs.KeepsLaws.{opened_empty}

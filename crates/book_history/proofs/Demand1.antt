@@ -108,7 +108,7 @@ answer_or_number n =
     record {
       by_lookup = look_number n;
       opened = λ r e slots before after promise. open_number n r e slots promise.result;
-      asked_of = ask_number n;
+      asked_for = ask_number n;
       noticed = λ ws start size after promise. notice_number n ws start size promise.result;
       reported = λ ws before after promise. report_number n ws (length before) promise.result;
     }
@@ -119,7 +119,7 @@ holds_what_it_held n =
     record {
       by_lookup = λ r base memory request before says after promise is. promise.words ∙ rw is;
       opened = λ r e slots before after promise. rw (← promise.result) at promise.book;
-      asked_of = λ ws base memory request told after promise is.
+      asked_for = λ ws base memory request told after promise is.
           promise.book
           ∙ ask_refused n ws base (length memory) request (new_lookup ws base memory request)
           (sym (ap (λ (a : Asked). a.reply) promise.result) ∙ is);

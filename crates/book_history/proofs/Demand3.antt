@@ -11,7 +11,7 @@ use mathlib.Core.Logic.{◌⊎◌, inl, inr}
 use borrow.Author.Tests.{eqb-true, eqb-false, ltb-true, ltb-false, not-true}
 use lib.Dec.{eqb, ltb}
 use lib.ListN.{length, get_or}
-use Rattle.bit_fields.specs.Choice.{if◌then◌else◌}
+use Rattle.std.specs.Prelude.{if◌then◌else◌}
 use Rattle.number_laws.proofs.Tests.{both, not_both}
 use Rattle.bit_fields.proofs.ChoiceLaws.{by_test, either}
 use Rattle.ids.specs.Packing.{packed, unpacked}

@@ -14,7 +14,7 @@ use mathlib.Core.List.{List}
 use borrow.Author.Tests.{ltb-true, ltb-false, eqb-true, eqb-false, leb-true, le-leb, lt-ltb}
 use lib.Dec.{eqb, leb, ltb}
 use lib.ListN.{length, get_or}
-use Rattle.bit_fields.specs.Choice.{if◌then◌else◌}
+use Rattle.std.specs.Prelude.{if◌then◌else◌}
 use Rattle.number_laws.proofs.Tests.{neither}
 use Rattle.bit_fields.proofs.ChoiceLaws.{by_test}
 use Rattle.placed.proofs.FromLaws.{values_length, values_at_lem, values_same, values_list}
@@ -313,7 +313,7 @@ module _ (s : State) (h : Sound s) where
           accepted_sound (handing s base memory) (edit_sound s (differs s base memory) (handed base memory) h) base memory request narrow (handed_today s base memory) asked after promise so
 
       go : (told : Reply) → asked.reply ≡ told → Sound (asking told s base memory after)
-      go (reply.Refused n) is = same_sound s after ((holds_what_it_held n).asked_of s.words base memory request asked after promise is) h
+      go (reply.Refused n) is = same_sound s after ((holds_what_it_held n).asked_for s.words base memory request asked after promise is) h
       go (reply.KeptBefore outcome) is = accepted (λ n other. let z : ◌≡◌ {A = ℕ} 0 1 = cc in absurd (omega arith))
       go (reply.NewlyKept outcome) is = accepted (λ n other. let z : ◌≡◌ {A = ℕ} 0 1 = cc in absurd (omega arith))
       go (reply.NotKept outcome) is = accepted (λ n other. let z : ◌≡◌ {A = ℕ} 0 1 = cc in absurd (omega arith))

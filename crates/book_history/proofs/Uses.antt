@@ -7,7 +7,7 @@ use mathlib.Core.Bool.{Bool, true, false}
 use mathlib.Core.Logic.{◌⊎◌, inl, inr}
 use lib.Dec.{ltb}
 use lib.ListN.{get_or, length}
-use Rattle.bit_fields.specs.Choice.{if◌then◌else◌}
+use Rattle.std.specs.Prelude.{if◌then◌else◌}
 use Rattle.ids.specs.Packing.{packed}
 use Rattle.ids.proofs.Claims.{equal_words_only, one_word_each, none_is_not_zero}
 use Rattle.memory_image.specs.declared.Piece.{Piece}
@@ -64,7 +64,7 @@ address_compared event address =
     record {
       by_the_list = λ r base memory other request same agree said.
           ap (λ (l : Looked). l.answer) (depends_on_list r base memory other request same agree) ∙ said;
-      asked_of = λ s began base memory request narrow clean asked after promise accepted said.
+      asked_for = λ s began base memory request narrow clean asked after promise accepted said.
           ap (λ (l : Looked). l.answer) (sym (never_stale s began base memory request narrow clean asked after promise accepted)) ∙ said;
       held = λ s began i small full clean request is said.
           ap (λ (l : Looked). l.answer) (still_good s began i small full clean request is) ∙ ap looked.Is said;
@@ -170,7 +170,7 @@ unfolding ask_result notice_says
 never_refused_seven s began =
     record {
       noticed = λ start size says after promise. promise.result ∙ simp (never_malformed s began);
-      asked_of = λ base memory request asked after promise other. promise.result ∙ simp (never_malformed s began, other);
+      asked_for = λ base memory request asked after promise other. promise.result ∙ simp (never_malformed s began, other);
     }
 
 pub report_always_fits : ReportAlwaysFits

@@ -7,8 +7,7 @@
 --     OnlyRefusedForRoom    after an accepted opening and any history, the report is refused only where its text doesn't fit
 --     OneOpening, OneAsk, OneNotice  any two results that a promise allows for one input are equal, and so are the words afterwards
 -- Assumes: nothing.
-use Rattle.std.specs.Prelude.{ℕ, ◌+◌, ◌≤◌, ◌<◌, ◌-◌, ◌≡◌, Bool, true, false, List, ltb, length}
-use Rattle.bit_fields.specs.Choice.{if◌then◌else◌}
+use Rattle.std.specs.Prelude.{ℕ, ◌+◌, ◌≤◌, ◌<◌, ◌-◌, ◌≡◌, Bool, true, false, List, ltb, length, if◌then◌else◌}
 use Rattle.ids.specs.Packing.{unpacked}
 use Rattle.ids.specs.declared.Request.{Request}
 use Rattle.ids.specs.declared.Unpacked.TheVariants.{Is}

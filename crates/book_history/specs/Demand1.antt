@@ -31,7 +31,7 @@ pub record AnswerOrNumber (n : ℕ) : Type 0 where
       → (looked_up r base memory request).answer ≡ looked.Refused n → OneOf3 1 2 3 n
   pub opened :
       (r : Registers) (e : Extent) (slots : ℕ) (before after : List ℕ) → Opened r e slots before (said.Refused n) after → OneOf3 1 2 4 n
-  pub asked_of :
+  pub asked_for :
       (ws : List ℕ) (base : ℕ) (memory : List ℕ) (request : Request) (told : Asked) (after : List ℕ)
       → Asks ws base memory request told after → told.reply ≡ reply.Refused n → OneOf3 7 6 3 n
   pub noticed :
@@ -47,7 +47,7 @@ pub record HoldsWhatItHeld (n : ℕ) : Type 0 where
   -- the book's words
   pub opened :
       (r : Registers) (e : Extent) (slots : ℕ) (before after : List ℕ) → Opened r e slots before (said.Refused n) after → after ≡ before
-  pub asked_of :
+  pub asked_for :
       (ws : List ℕ) (base : ℕ) (memory : List ℕ) (request : Request) (told : Asked) (after : List ℕ)
       → Asks ws base memory request told after → told.reply ≡ reply.Refused n → after ≡ ws
   -- the book's and an answer's words

@@ -6,8 +6,7 @@
 --     Begun       an accepted opening, of words of whatever content, and any history since
 -- A register has 32 bits and a StreamID too, as their types say: `Narrow` and `narrow` say no more.
 -- Assumes: nothing.
-use Rattle.std.specs.Prelude.{ℕ, ◌+◌, ◌<◌, ◌^◌, ◌-◌, Bool, false, not, ◌&&◌, ◌||◌, List, eqb, leb, ltb, get_or, length}
-use Rattle.bit_fields.specs.Choice.{if◌then◌else◌}
+use Rattle.std.specs.Prelude.{ℕ, ◌+◌, ◌<◌, ◌^◌, ◌-◌, Bool, false, not, ◌&&◌, ◌||◌, List, eqb, leb, ltb, get_or, length, if◌then◌else◌}
 use Rattle.placed.specs.From.{tab}
 use Rattle.ids.specs.declared.Request.{Request}
 use Rattle.registers.specs.Words.{register_words, words_of_registers}

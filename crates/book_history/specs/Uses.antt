@@ -13,8 +13,7 @@
 --     NeverRefusedSeven             NeverMalformed: after any history, refusal 7 isn't given
 --     ReportAlwaysFits              OnlyRefusedForRoom, ReportFits: after any history a report into a buffer of report_most bytes is written
 -- Assumes: nothing.
-use Rattle.std.specs.Prelude.{ℕ, ◌+◌, ◌^◌, ◌≤◌, ◌<◌, ◌-◌, ◌≡◌, true, false, List, ◌⊎◌, ltb, get_or, length}
-use Rattle.bit_fields.specs.Choice.{if◌then◌else◌}
+use Rattle.std.specs.Prelude.{ℕ, ◌+◌, ◌^◌, ◌≤◌, ◌<◌, ◌-◌, ◌≡◌, true, false, List, ◌⊎◌, ltb, get_or, length, if◌then◌else◌}
 use Rattle.ids.specs.Packing.{unpacked, request_of, Proper}
 use Rattle.ids.specs.declared.Request.{Request}
 use Rattle.ids.specs.declared.Substream.TheVariants.{Without, With}
@@ -59,7 +58,7 @@ pub record AddressCompared (event address : ℕ) : Type 0 where
       → (looked_up r base memory request).answer ≡ looked.Is (Fault event address)
       → (looked_up r base other request).answer ≡ looked.Is (Fault event address)
   -- an ask while nothing lacks its notice: what it says, and what a new lookup says
-  pub asked_of :
+  pub asked_for :
       (s : State) → Begun s → (base : ℕ) (memory : List ℕ) (request : Request) → request.stream.number < 2 ^ 32
       → ((a : ℕ) → (handing s base memory).unnoticed a ≡ false)
       → (asked : Asked) (after : List ℕ) → Asks s.words base memory request asked after → Accepted asked.reply
@@ -118,7 +117,7 @@ pub record NeverRefusedSeven (s : State) : Type 0 where
   pub noticed :
       (start size : ℕ) (says : Said) (after : List ℕ) → Noticed s.words start size says after
       → says ≡ (if ltb address_top (start + size) then said.Refused 5 else said.Done)
-  pub asked_of :
+  pub asked_for :
       (base : ℕ) (memory : List ℕ) (request : Request) (asked : Asked) (after : List ℕ)
       → Asks s.words base memory request asked after → other_extent s.words base (length memory) ≡ true → asked ≡ refused_with 6
 

@@ -46,8 +46,8 @@ module _ (ws : List ℕ) (i : ℕ) where
         pub slot_answer :
             first ≡ i → {block : List ℕ} → block ≡ block_at ws i → {answer : Bool} → answer ≡ stands block → answer ≡ slot_well ws i
         unfolding slot_well
-        slot_answer same is_Block stood =
-            rw (stood, is_Block) (simp (ne_eqb _ _ held, lt-leb _ _ inside, ← is, some, ← found, eq-eqb _ _ same))
+        slot_answer same is_block stood =
+            rw (stood, is_block) (simp (ne_eqb _ _ held, lt-leb _ _ inside, ← is, some, ← found, eq-eqb _ _ same))
 
 module _ (ws : List ℕ) where
   pub bad_none : slots_of ws ≡ 0 → true ≡ refusal7 ws

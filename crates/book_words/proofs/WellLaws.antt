@@ -11,7 +11,7 @@ use mathlib.Core.List.{List}
 use borrow.Author.Tests.{eq-eqb, ne_eqb, le-ltb, lt-leb, eqb-true, eqb-false, ltb-true, ltb-false, leb-false, not-false}
 use lib.Dec.{eqb, leb, ltb}
 use Rattle.number_laws.proofs.Tests.{not_both}
-use Rattle.bit_fields.specs.Choice.{if◌then◌else◌}
+use Rattle.std.specs.Prelude.{if◌then◌else◌}
 use Rattle.bit_fields.proofs.ChoiceLaws.{by_test}
 use Rattle.placed.proofs.FromLaws.{all_each, all_every}
 use Rattle.ids.specs.Packing.{unpacked}

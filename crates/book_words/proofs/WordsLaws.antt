@@ -11,7 +11,7 @@ use mathlib.Core.Bool.{Bool, false, not, ◌&&◌}
 use mathlib.Core.List.{List, [], ◌∷◌, ◌++◌}
 use borrow.Author.Tests.{eqb-true, not-false}
 use lib.Dec.{eqb}
-use lib.ListN.{get_or, set, length, replicate}
+use lib.ListN.{get_or, set, replicate}
 use Rattle.number_laws.proofs.Tests.{both}
 use Rattle.placed.specs.From.{values_from, from}
 use Rattle.placed.specs.Placed.{Left}

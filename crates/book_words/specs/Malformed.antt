@@ -3,8 +3,7 @@
 --     slot_well       what is asked of one slot
 --     first_from      the lowest slot with a key
 -- Assumes: nothing.
-use Rattle.std.specs.Prelude.{ℕ, zero, suc, ◌+◌, ◌-◌, Bool, true, false, not, List, eqb, leb, ltb, get_or}
-use Rattle.bit_fields.specs.Choice.{if◌then◌else◌}
+use Rattle.std.specs.Prelude.{ℕ, zero, suc, ◌+◌, ◌-◌, Bool, true, false, not, List, eqb, leb, ltb, get_or, if◌then◌else◌}
 use Rattle.bit_fields.specs.Bits.{in_bits}
 use Rattle.ids.specs.Packing.{unpacked}
 use Rattle.ids.specs.declared.Unpacked.{Unpacked}

@@ -1,5 +1,7 @@
 // The words of a book, read and written; refusal 7 is in well.rt. Start at `fill`.
-// Meets specs/Layout.antt; `first_from` is `first_from` of specs/Malformed.antt.
+// Meets specs/Layout.antt; the search, `first_from`, meets that of specs/Malformed.antt.
+#![tactic(auto)]
+
 ghost use Rattle.std.specs.Prelude.{◌≡◌, ◌+◌, ◌≤◌, ◌<◌};
 ghost use Rattle.answers.specs.Layout.{answer_words};
 ghost use Rattle.book_words.specs.Layout.{block_at, book_words, copied, kept_at, low_word, opened_with, other_extent, registers_of, slots_most};

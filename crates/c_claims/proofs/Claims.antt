@@ -36,7 +36,7 @@ as_in_rattle =
     record {
       by_lookup = λ r base memory request told is before says after promise. rw is (promise.result, promise.words);
       opened = λ r e slots before told left is says after promise. (promise.result ∙ rw is.result, promise.book ∙ sym is.book);
-      asked_of = λ ws base memory request told left is before says book after promise.
+      asked_for = λ ws base memory request told left is before says book after promise.
           (promise.result ∙ rw is.result, promise.book ∙ sym is.book, promise.words ∙ rw is.result);
       noticed = λ ws start size told left is says after promise. (promise.result ∙ rw is.result, promise.book ∙ sym is.book);
       reported = λ ws before told left is length_before says after length_after promise.
@@ -109,7 +109,7 @@ module _ (ws : List ℕ) (base : ℕ) (memory : List ℕ) (request : Request) (s
     where
       go : (told : Reply) → (asked ws base memory request).reply ≡ told → says ≡ ask_says told → OneOf3 100 101 102 says ⊎ OneOf3 7 6 3 says
       go (reply.Refused n) told is =
-          inr (rw is ((answer_or_number n).asked_of ws base memory request (asked ws base memory request) _ (record { result = refl; book = refl }) told))
+          inr (rw is ((answer_or_number n).asked_for ws base memory request (asked ws base memory request) _ (record { result = refl; book = refl }) told))
       go (reply.KeptBefore outcome) told is = inl (inl is)
       go (reply.NewlyKept outcome) told is = inl (inr (inl is))
       go (reply.NotKept outcome) told is = inl (inr (inr is))
@@ -130,7 +130,7 @@ numbers_in_c =
     record {
       by_lookup = λ r base memory request before says after promise. look_says r base memory request says promise.result;
       opened = λ r e slots before says after promise. open_says_lem r e slots before after says promise;
-      asked_of = λ ws base memory request before says book after promise. ask_says_lem ws base memory request says promise.result;
+      asked_for = λ ws base memory request before says book after promise. ask_says_lem ws base memory request says promise.result;
       noticed = λ ws begin size says after promise. notice_says_lem ws begin size after says promise;
       reported = λ ws before length_before says after length_after promise. report_says_lem ws before after says promise.result promise.text;
       zero_opened = λ r e slots before after promise.

@@ -54,11 +54,11 @@ one_in_c =
           let one = as_in_rattle.opened r e slots before _ after here x after a in
           let two = as_in_rattle.opened r e slots before _ other there y other b in
           (one.0 ∙ sym two.0, (one_opening r e slots before _ _ after other here there).1);
-      asked_of = λ ws base memory request before x y book books after other a b.
+      asked_for = λ ws base memory request before x y book books after other a b.
           let here : Asks ws base memory request (asked ws base memory request) book = record { result = refl; book = a.book } in
           let there : Asks ws base memory request (asked ws base memory request) books = record { result = refl; book = b.book } in
-          let one = as_in_rattle.asked_of ws base memory request _ book here before x book after a in
-          let two = as_in_rattle.asked_of ws base memory request _ books there before y books other b in
+          let one = as_in_rattle.asked_for ws base memory request _ book here before x book after a in
+          let two = as_in_rattle.asked_for ws base memory request _ books there before y books other b in
           (one.0 ∙ sym two.0, (one_ask ws base memory request _ _ book books here there).1, one.2 ∙ sym two.2);
       noticed = λ ws begin size x y after other a b.
           let here : Noticed ws begin size (notice_says ws begin size) after = record { result = refl; book = a.book } in

@@ -33,7 +33,7 @@ pub record AsInRattle : Type 0 where
   pub opened :
       (r : Registers) (e : Extent) (slots : ℕ) (before : List ℕ) (told : Said) (left : List ℕ) → Opened r e slots before told left
       → (says : ℕ) (after : List ℕ) → OpensBook r e slots before says after → (says ≡ said_says told) × (after ≡ left)
-  pub asked_of :
+  pub asked_for :
       (ws : List ℕ) (base : ℕ) (memory : List ℕ) (request : Request) (told : Asked) (left : List ℕ) → Asks ws base memory request told left
       → (before : List ℕ) (says : ℕ) (book after : List ℕ) → AsksBook ws base memory request before says book after
       → (says ≡ ask_says told.reply) × (book ≡ left) × (after ≡ ask_put told.reply told.list before)
@@ -53,7 +53,7 @@ pub record NumbersInC : Type 0 where
   pub opened :
       (r : Registers) (e : Extent) (slots : ℕ) (before : List ℕ) (says : ℕ) (after : List ℕ) → OpensBook r e slots before says after
       → (says ≡ 0) ⊎ OneOf3 1 2 4 says
-  pub asked_of :
+  pub asked_for :
       (ws : List ℕ) (base : ℕ) (memory : List ℕ) (request : Request) (before : List ℕ) (says : ℕ) (book after : List ℕ)
       → AsksBook ws base memory request before says book after → OneOf3 100 101 102 says ⊎ OneOf3 7 6 3 says
   pub noticed :

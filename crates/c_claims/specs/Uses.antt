@@ -29,7 +29,7 @@ pub record OneInC : Type 0 where
   pub opened :
       (r : Registers) (e : Extent) (slots : ℕ) (before : List ℕ) (x y : ℕ) (after other : List ℕ)
       → OpensBook r e slots before x after → OpensBook r e slots before y other → (x ≡ y) × (after ≡ other)
-  pub asked_of :
+  pub asked_for :
       (ws : List ℕ) (base : ℕ) (memory : List ℕ) (request : Request) (before : List ℕ) (x y : ℕ) (book books after other : List ℕ)
       → AsksBook ws base memory request before x book after → AsksBook ws base memory request before y books other
       → (x ≡ y) × (book ≡ books) × (after ≡ other)

@@ -10,7 +10,7 @@ use mathlib.Core.Bool.{Bool, true, false}
 use borrow.Author.Tests.{eq-eqb, ne_eqb}
 use lib.Dec.{eqb}
 use Rattle.bit_fields.specs.Bits.{bits}
-use Rattle.bit_fields.specs.Choice.{if◌then◌else◌}
+use Rattle.std.specs.Prelude.{if◌then◌else◌}
 use Rattle.bit_fields.proofs.ChoiceLaws.{either}
 use Rattle.registers.specs.Fields.{ttf}
 use Rattle.registers.specs.declared.Registers.{Registers}

@@ -5,9 +5,8 @@
 --     effective_ips      the size of intermediate addresses, in bits
 -- Ours: T0SZ is 16 to 39, with no small tables and no 52-bit inputs; IPS 7 counts as the OAS; TTB0's top four bits are read, which 003 calls RES0.
 -- Assumes: nothing.
-use Rattle.std.specs.Prelude.{ℕ, ◌*◌, ◌^◌, min, Bool, ◌&&◌, eqb, leb}
+use Rattle.std.specs.Prelude.{ℕ, ◌*◌, ◌^◌, min, Bool, ◌&&◌, eqb, leb, if◌then◌else◌}
 use Rattle.bit_fields.specs.Bits.{bits, bits_of, in_bits}
-use Rattle.bit_fields.specs.Choice.{if◌then◌else◌}
 use Rattle.registers.specs.Fields.{ttf, gran4k, gran16k, gran64k}
 use Rattle.registers.specs.Sizes.{size_of, oas_size}
 use Rattle.registers.specs.declared.Registers.{Registers}

@@ -1,5 +1,7 @@
 // What a CD says. Start at `read_cd`.
 // Meets specs/ContextEntry.antt; the CD is handed over as its place in the memory, and its fields are in fields.rt.
+#![tactic(auto)]
+
 ghost use Rattle.std.specs.Prelude.{◌≡◌};
 ghost use Rattle.memory_image.specs.Words.{word_of};
 ghost use Rattle.context_entry.specs.ContextEntry.{cd_rule, effective_ips, first_half, granule0, granule_there, half_fits, translated, vmsa32_rule};
@@ -11,7 +13,7 @@ use registers::Registers;
 pub mod fields;
 
 // The size of a page of tables.
-#[derive(Drop)]
+#[derive(Clone, Copy)]
 pub enum Granule {
     Size4K,
     Size16K,
@@ -20,7 +22,7 @@ pub enum Granule {
 }
 
 // What a CD says of one half of the address space.
-#[derive(Drop)]
+#[derive(Clone, Copy)]
 pub struct Half {
     pub granule: Granule,
     pub tsz: u64,

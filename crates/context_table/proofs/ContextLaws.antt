@@ -83,8 +83,8 @@ module _ (base : ℕ) (memory : List ℕ) (r : Registers) (ws : List ℕ) where
           (format ≡ 0 → ⊥) → {leaf : ℕ} {found : Found} {longer : List ℕ} → leaf ≡ leaf_bits format
           → Goes (two_level_rule r (s1_context_ptr w) leaf index) found longer → Goes (context_rule r w index) found longer
       unfolding context_rule
-      find_two deep is_IsLeaf walk =
-          simp (← is_max, ne_eqb _ _ some, ← is_format, ne_eqb _ _ deep) (rw is_IsLeaf at walk)
+      find_two deep is_leaf walk =
+          simp (← is_max, ne_eqb _ _ some, ← is_format, ne_eqb _ _ deep) (rw is_leaf at walk)
 
 -- where it ends, it ends with a proper outcome
 abbrev pub EndsProper : Found → Type 0

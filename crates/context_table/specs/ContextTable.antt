@@ -7,9 +7,8 @@
 -- request without a SubstreamID.
 -- The CD itself is fetched by whoever asks where it is.
 -- Assumes: nothing.
-use Rattle.std.specs.Prelude.{ℕ, ◌+◌, ◌*◌, ◌^◌, eqb}
+use Rattle.std.specs.Prelude.{ℕ, ◌+◌, ◌*◌, ◌^◌, eqb, if◌then◌else◌}
 use Rattle.bit_fields.specs.Bits.{bits, high, low}
-use Rattle.bit_fields.specs.Choice.{if◌then◌else◌}
 use Rattle.memory_image.specs.Rule.{Rule, done, fetch}
 use Rattle.registers.specs.declared.Registers.{Registers}
 use Rattle.answers.specs.Outcome.{c_bad_substream_id, f_cd_fetch}

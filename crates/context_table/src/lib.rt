@@ -1,5 +1,7 @@
 // Where a CD lies. Start at `find_cd`.
 // Meets specs/ContextTable.antt; reads only through `memory_image::fetch`.
+#![tactic(auto)]
+
 ghost use Rattle.std.specs.Prelude.{◌≡◌};
 ghost use Rattle.memory_image.specs.Words.{word_of};
 ghost use Rattle.answers.specs.Walk.{Walks};
@@ -13,7 +15,7 @@ use registers::Registers;
 use stream_entry::fields;
 
 // Where the CD is, or how the lookup ends before there is one.
-#[derive(Drop)]
+#[derive(Clone, Copy)]
 pub enum Found {
     Cd(u64),
     Ended(Outcome),

@@ -3,8 +3,7 @@
 --     made_stream, made_substream      what the constructors answer
 --     refusal3                         a request that is refused with 3
 -- Assumes: nothing.
-use Rattle.std.specs.Prelude.{ℕ, ◌^◌, Bool, false, ltb, leb}
-use Rattle.bit_fields.specs.Choice.{if◌then◌else◌}
+use Rattle.std.specs.Prelude.{ℕ, ◌^◌, Bool, false, ltb, leb, if◌then◌else◌}
 use Rattle.ids.specs.declared.MadeStream.{MadeStream}
 use Rattle.ids.specs.declared.MadeStream.TheVariants as stream
 use Rattle.ids.specs.declared.MadeSubstream.{MadeSubstream}

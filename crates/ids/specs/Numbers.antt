@@ -3,8 +3,7 @@
 --     given_of, number_of    whether a request has a SubstreamID, and its number
 -- Ours: all of it.
 -- Assumes: nothing.
-use Rattle.std.specs.Prelude.{ℕ, eqb}
-use Rattle.bit_fields.specs.Choice.{if◌then◌else◌}
+use Rattle.std.specs.Prelude.{ℕ, eqb, if◌then◌else◌}
 use Rattle.ids.specs.declared.Request.{Request}
 use Rattle.ids.specs.declared.Substream.{Substream}
 use Rattle.ids.specs.declared.Substream.TheVariants.{Without, With}

@@ -3,9 +3,8 @@
 --     unpacked    the request that a word stands for, if it stands for one
 --     Proper      what every request that is not refused has
 -- Assumes: nothing.
-use Rattle.std.specs.Prelude.{ℕ, ◌+◌, ◌-◌, ◌*◌, ◌^◌, ◌<◌, ◌≡◌, false, eqb, leb, ltb}
+use Rattle.std.specs.Prelude.{ℕ, ◌+◌, ◌-◌, ◌*◌, ◌^◌, ◌<◌, ◌≡◌, false, eqb, leb, ltb, if◌then◌else◌}
 use Rattle.bit_fields.specs.Bits.{low, high}
-use Rattle.bit_fields.specs.Choice.{if◌then◌else◌}
 use Rattle.ids.specs.Ids.{stream_bits, substream_bits, refusal3}
 use Rattle.ids.specs.declared.Substream.{Substream}
 use Rattle.ids.specs.declared.Substream.TheVariants.{Without, With}

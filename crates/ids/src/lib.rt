@@ -1,5 +1,7 @@
 // The two kinds of id, and a request. Start at `Request`.
 // Meets specs/Ids.antt, and for the word that a request is packed into specs/Packing.antt; a request as numbers is in numbers.rt.
+#![tactic(auto)]
+
 ghost use Rattle.std.specs.Prelude.{◌≡◌};
 ghost use Rattle.ids.specs.Ids.{made_stream, made_substream, refusal3};
 ghost use Rattle.ids.specs.Packing.{packed, unpacked};
@@ -7,25 +9,25 @@ ghost use Rattle.ids.specs.Packing.{packed, unpacked};
 mod numbers;
 
 // Which device: any number of 32 bits.
-#[derive(Drop)]
+#[derive(Clone, Copy)]
 pub struct StreamId {
     pub number: u32,
 }
 
 // Which of a device's address spaces: a number of 20 bits. One that is wider can be made past the
 // constructor, from whatever number a caller has; a request with it is refused with 3.
-#[derive(Drop)]
+#[derive(Clone, Copy)]
 pub struct SubstreamId {
     pub number: u64,
 }
 
-#[derive(Drop)]
+#[derive(Clone, Copy)]
 pub enum MadeStream {
     Made(StreamId),
     TooLarge,
 }
 
-#[derive(Drop)]
+#[derive(Clone, Copy)]
 pub enum MadeSubstream {
     Made(SubstreamId),
     TooLarge,
@@ -63,20 +65,20 @@ impl SubstreamId {
 }
 
 // A request comes with a SubstreamID or without one: SubstreamID 0 and none are different requests.
-#[derive(Drop)]
+#[derive(Clone, Copy)]
 pub enum Substream {
     Without,
     With(SubstreamId),
 }
 
-#[derive(Drop)]
+#[derive(Clone, Copy)]
 pub struct Request {
     pub stream: StreamId,
     pub substream: Substream,
 }
 
 // What a word stands for: a request, or none.
-#[derive(Drop)]
+#[derive(Clone, Copy)]
 pub enum Unpacked {
     Is(Request),
     Nothing,

@@ -1,5 +1,7 @@
 // The lines that the monitor writes, put into a lent buffer from a place on. Start at `answer`.
 // Each function answers the place after what it put, as those of `text` do.
+#![tactic(auto)]
+
 use answers::{Outcome, PIECES_MOST, Pieces, Translation};
 use registers::Registers;
 use script::reasons;

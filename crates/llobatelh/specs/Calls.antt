@@ -1,13 +1,12 @@
 -- What each call of the C interface promises: its number, and every lent byte and word at exit.
 --     LooksUp (specs/Lookup.antt of lookup), part_says, OpensBook, AsksBook (specs/Into.antt of book), NoticesBook, ReportsBook, recorded_says
---                              one for each call: start here
+--                                one for each call: start here
 --     said_says, written_says    a call's number: 0, or the refusal's
 --     length_put                 the word that a length is put into; as it was where there is none
 -- A refused call leaves every word.
 -- Ours: 2^64 - 1 where there is no part.
 -- Assumes: nothing.
-use Rattle.std.specs.Prelude.{ℕ, ◌-◌, ◌^◌, ◌≡◌, List, [], ◌∷◌, length}
-use Rattle.bit_fields.specs.Choice.{if◌then◌else◌}
+use Rattle.std.specs.Prelude.{ℕ, ◌-◌, ◌^◌, ◌≡◌, List, [], ◌∷◌, length, if◌then◌else◌}
 use Rattle.registers.specs.declared.Registers.{Registers}
 use Rattle.memory_image.specs.Extent.{Extent}
 use Rattle.lookup.specs.declared.part.Reached.{Reached}

@@ -1,4 +1,4 @@
-// The calls of the C interface on a book. Start at `llobatelh_ask`.
+// The C interface's calls on a book. Start at `llobatelh_ask`.
 // Meets specs/Calls.antt; include/llobatelh.h says what each word of a book is.
 ghost use Rattle.std.specs.Prelude.{◌≡◌};
 ghost use Rattle.registers.specs.Words.{registers_from};
@@ -13,8 +13,7 @@ use registers::{REGISTER_WORDS, Registers};
 use report::Written;
 
 // Opens a book: 0 and every word of it; or refusal 1, 2 or 4.
-#[unsafe(no_mangle)]
-pub extern "C" fn llobatelh_open(
+pub fn llobatelh_open(
     book: &mut [u64; BOOK_WORDS],
     registers: &[u32; REGISTER_WORDS],
     strtab_base: u64,
@@ -41,8 +40,7 @@ fn number_of(said: Said) -> u64
 
 // Asks a book: 100 (kept before), 101 (newly kept) or 102 (not kept) and the answer's words; or refusal
 // 7, 6 or 3.
-#[unsafe(no_mangle)]
-pub extern "C" fn llobatelh_ask(
+pub fn llobatelh_ask(
     book: &mut [u64; BOOK_WORDS],
     base: u64,
     memory: &[u8],
@@ -57,8 +55,7 @@ pub extern "C" fn llobatelh_ask(
 }
 
 // Tells a book that bytes were edited: 0; or refusal 7 or 5.
-#[unsafe(no_mangle)]
-pub extern "C" fn llobatelh_notice(book: &mut [u64; BOOK_WORDS], start: u64, size: u64) -> u64
+pub fn llobatelh_notice(book: &mut [u64; BOOK_WORDS], start: u64, size: u64) -> u64
     ensures { NoticesBook book.old start size result book.new }
 {
     let said = book::notice(book, start, size);
@@ -66,12 +63,7 @@ pub extern "C" fn llobatelh_notice(book: &mut [u64; BOOK_WORDS], start: u64, siz
 }
 
 // Writes a book as text: 0 and the text's length; or refusal 7 or 8.
-#[unsafe(no_mangle)]
-pub extern "C" fn llobatelh_report(
-    book: &[u64; BOOK_WORDS],
-    out: &mut [u8],
-    length: &mut [u64; 1],
-) -> u64
+pub fn llobatelh_report(book: &[u64; BOOK_WORDS], out: &mut [u8], length: &mut [u64; 1]) -> u64
     ensures { ReportsBook book.now out.old length.old result out.new length.new }
 {
     let written = report::report(book, out);

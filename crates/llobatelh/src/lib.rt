@@ -1,6 +1,8 @@
-// The C interface: each public call, on numbers, byte slices and word arrays. Start at `llobatelh_lookup`.
-// Meets specs/Calls.antt. include/llobatelh.h declares it for C and says what each word is; the calls on a book are in book_calls.rt.
+// The C interface's calls, on numbers, byte slices and word arrays, which `llobatelh_c` exports by these names. Start at `llobatelh_lookup`.
+// Meets specs/Calls.antt. include/llobatelh.h declares them for C and says what each word is; the calls on a book are in book_calls.rt.
 // No call asks anything of its numbers; a refused call leaves every byte and word.
+#![tactic(auto)]
+
 ghost use Rattle.std.specs.Prelude.{◌≡◌};
 ghost use Rattle.registers.specs.Words.{registers_from};
 ghost use Rattle.ids.specs.Numbers.{request_from};
@@ -19,8 +21,7 @@ pub mod book_calls;
 const NO_PART: u64 = u64::MAX;
 
 // A new lookup: 0 and the answer's words; or refusal 1, 2 or 3.
-#[unsafe(no_mangle)]
-pub extern "C" fn llobatelh_lookup(
+pub fn llobatelh_lookup(
     registers: &[u32; REGISTER_WORDS],
     strtab_base: u64,
     base: u64,
@@ -45,8 +46,7 @@ pub extern "C" fn llobatelh_lookup(
 }
 
 // Where in the memory the STE of a request starts, 64 bytes; or NO_PART where none is handed back.
-#[unsafe(no_mangle)]
-pub extern "C" fn llobatelh_ste_part(
+pub fn llobatelh_ste_part(
     registers: &[u32; REGISTER_WORDS],
     strtab_base: u64,
     base: u64,
@@ -67,12 +67,7 @@ pub extern "C" fn llobatelh_ste_part(
 }
 
 // Whether an abort's event is recorded: 1 or 0.
-#[unsafe(no_mangle)]
-pub extern "C" fn llobatelh_is_recorded(
-    registers: &[u32; REGISTER_WORDS],
-    strtab_base: u64,
-    event: u64,
-) -> u64
+pub fn llobatelh_is_recorded(registers: &[u32; REGISTER_WORDS], strtab_base: u64, event: u64) -> u64
     ensures { result ≡ recorded_says (registers_from registers.now strtab_base) event }
 {
     let regs = Registers::from_words(registers, strtab_base);

@@ -16,7 +16,7 @@ use lib.ListN.{length, get_or, take, drop, length-append}
 use lib.Seq.{get_or-append-add}
 use denote.Ref.{Bor}
 use Rattle.number_laws.proofs.Scans.{left_none, left_one}
-use Rattle.bit_fields.specs.Choice.{if◌then◌else◌}
+use Rattle.std.specs.Prelude.{if◌then◌else◌}
 use Rattle.bit_fields.proofs.ChoiceLaws.{alike, either}
 use Rattle.ids.specs.Ids.{refusal3}
 use Rattle.ids.specs.declared.Request.{Request}
@@ -80,7 +80,9 @@ module _ (base : ℕ) where
       let here : get_or (front ++ (p ∷ rest)) (length front) nothing ≡ p = rw add-zero at (get_or-append-add front (p ∷ rest) 0 nothing) in
       let longer : front ++ (p ∷ rest) ≡ (front ++ (p ∷ [])) ++ rest = sym (append_assoc front (p ∷ []) rest) in
       let on : length front + 1 ≡ length (front ++ (p ∷ [])) = sym (length-append front (p ∷ [])) in
-      rw (here, longer, on)
+      let after : ste_from base (front ++ (p ∷ rest)) m (length front + 1) ≡ ste_from base ((front ++ (p ∷ [])) ++ rest) m (length (front ++ (p ∷ [])))
+      = cc in
+      rw here (ap (λ (at : Reached). if eqb p.length 64 then At (p.address - base) else at) after)
 
   behind : (front : List Piece) (m : ℕ) (l : List Piece) → length l ≤ m → ste_from base (front ++ padded m l) m (length front) ≡ first_long base l
   unfolding ste_from

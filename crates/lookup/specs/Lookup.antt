@@ -4,8 +4,7 @@
 --     LooksUp          the same into an answer's words
 --     from_ste, from_entry, from_cd  how it goes on from where the STE is, from what it says, from where the CD is
 -- Assumes: nothing.
-use Rattle.std.specs.Prelude.{ℕ, ◌^◌, ◌≡◌, List}
-use Rattle.bit_fields.specs.Choice.{if◌then◌else◌}
+use Rattle.std.specs.Prelude.{ℕ, ◌^◌, ◌≡◌, List, if◌then◌else◌}
 use Rattle.ids.specs.Ids.{refusal3}
 use Rattle.ids.specs.declared.Request.{Request}
 use Rattle.ids.specs.declared.Substream.{Substream}

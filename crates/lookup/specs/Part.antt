@@ -4,9 +4,8 @@
 --     ste_at_rule    the rule: the same walk, and the same fetch, as the lookup's
 --     ste_from       the first descriptor of 64 bytes among those of a list: how the code finds it
 -- Assumes: nothing.
-use Rattle.std.specs.Prelude.{ℕ, zero, suc, ◌+◌, ◌-◌, ◌^◌, ◌≡◌, List, [], eqb, get_or, take, drop}
+use Rattle.std.specs.Prelude.{ℕ, zero, suc, ◌+◌, ◌-◌, ◌^◌, ◌≡◌, List, [], eqb, get_or, take, drop, if◌then◌else◌}
 use Rattle.std.specs.Borrow.{Bor}
-use Rattle.bit_fields.specs.Choice.{if◌then◌else◌}
 use Rattle.ids.specs.Ids.{refusal3}
 use Rattle.ids.specs.declared.Request.{Request}
 use Rattle.registers.specs.Sizes.{refusal1, oas_size}

@@ -1,5 +1,7 @@
 // The whole lookup, and the STE that a request reaches. Start at `lookup`.
 // Meets specs/Lookup.antt and specs/Part.antt. What it reads it reads through `memory_image::fetch`.
+#![tactic(auto)]
+
 ghost use Rattle.std.specs.Prelude.{◌≡◌};
 ghost use Rattle.ids.specs.Numbers.{request_from};
 ghost use Rattle.registers.specs.Words.{registers_from};
@@ -15,14 +17,14 @@ pub mod part;
 mod walk;
 
 // A refusal's number, or the answer.
-#[derive(Drop)]
+#[derive(Clone, Copy)]
 pub enum Answer {
     Refused(u64),
     Is(Outcome),
 }
 
 // What a lookup answers, with the descriptors that it read, in order.
-#[derive(Drop)]
+#[derive(Clone, Copy)]
 pub struct Looked {
     pub answer: Answer,
     pub list: Pieces,

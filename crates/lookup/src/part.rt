@@ -9,7 +9,7 @@ use ids::Request;
 use registers::Registers;
 
 // The STE's offset in the memory, or that none is reached.
-#[derive(Drop)]
+#[derive(Clone, Copy)]
 pub enum Reached {
     At(usize),
     Nowhere,

@@ -12,7 +12,7 @@ use mathlib.Core.Logic.{◌⊎◌, inl, inr}
 use lib.Dec.{eqb, leb, ltb}
 use Rattle.number_laws.proofs.Tests.{not_both}
 use Rattle.bit_fields.specs.Bits.{bits, low}
-use Rattle.bit_fields.specs.Choice.{if◌then◌else◌}
+use Rattle.std.specs.Prelude.{if◌then◌else◌}
 use Rattle.bit_fields.proofs.ChoiceLaws.{either}
 use Rattle.ids.specs.declared.Request.{Request}
 use Rattle.ids.specs.declared.Substream.{Substream}
@@ -102,7 +102,7 @@ module _ (e : Extent) (limit : ℕ) where
         size = 8 * n;
         alone = refl;
         long = long;
-        not_there = λ lies. not_both (sym (lies_fetched e limit (descriptor address n) lies) ∙ test);
+        not_lent = λ lies. not_both (sym (lies_fetched e limit (descriptor address n) lies) ∙ test);
       }
 
   -- from StreamID to STE

@@ -71,14 +71,14 @@ look_at_what_you_lent r base memory request event address said =
         let b = leb-true (address + 64) (base + length memory) inside in
         let c = leb-true (address + 64) (2 ^ oas_size r) below in
         let short = most wanted.long in
-        absurd (wanted.not_there (record { from = a; inside = omega arith; below = omega arith }))
+        absurd (wanted.not_lent (record { from = a; inside = omega arith; below = omega arith }))
 
 pub wanted_not_listed : WantedNotListed
 wanted_not_listed r base memory request event address said p alone =
     let wanted = (fault_says_which r base memory request).named event address said in
     let whole : p ≡ record { address = address; length = wanted.size } = ap (λ (l : List Piece). get_or l 0 nothing) (sym alone ∙ wanted.alone) in (
       ap (λ (q : Piece). q.address) whole,
-      λ i counted is. wanted.not_there (rw (is, whole) at (listed_lies r base memory request i counted)),
+      λ i counted is. wanted.not_lent (rw (is, whole) at (listed_lies r base memory request i counted)),
     )
 
 pub fault_stands_anywhere : FaultStandsAnywhere

@@ -3,8 +3,7 @@
 --     not_fetched   those of a lookup
 --     Wanted        there is one such descriptor, and it is at an address
 -- Assumes: nothing.
-use Rattle.std.specs.Prelude.{ℕ, ◌-◌, ◌*◌, ◌^◌, ◌≡◌, List, [], ◌∷◌, ◌⊎◌}
-use Rattle.bit_fields.specs.Choice.{if◌then◌else◌}
+use Rattle.std.specs.Prelude.{ℕ, ◌-◌, ◌*◌, ◌^◌, ◌≡◌, List, [], ◌∷◌, ◌⊎◌, if◌then◌else◌}
 use Rattle.ids.specs.declared.Request.{Request}
 use Rattle.registers.specs.Sizes.{oas_size}
 use Rattle.registers.specs.declared.Registers.{Registers}
@@ -29,4 +28,4 @@ pub record Wanted (e : Extent) (limit : ℕ) (failed : List Piece) (address : �
   pub size : ℕ
   pub alone : failed ≡ record { address = address; length = size } ∷ []
   pub long : (size ≡ 8) ⊎ (size ≡ 64)
-  pub not_there : Lies e limit (record { address = address; length = size }) → ⊥
+  pub not_lent : Lies e limit (record { address = address; length = size }) → ⊥

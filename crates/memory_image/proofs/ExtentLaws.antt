@@ -12,7 +12,7 @@ use mathlib.Core.Bool.{Bool, true, false, ◌&&◌}
 use borrow.Author.Tests.{eq-eqb, ne_eqb, lt-ltb, le-ltb, le-leb, lt-leb, ltb-true, ltb-false, leb-true}
 use lib.Dec.{ltb}
 use Rattle.number_laws.proofs.Tests.{both}
-use Rattle.bit_fields.specs.Choice.{if◌then◌else◌}
+use Rattle.std.specs.Prelude.{if◌then◌else◌}
 use Rattle.memory_image.specs.Extent.{Extent, memory_most, address_top, refusal2, fetched, fetch_rule, wanted}
 use Rattle.memory_image.specs.Rule.{Lies}
 use Rattle.memory_image.specs.declared.Piece.{Piece}

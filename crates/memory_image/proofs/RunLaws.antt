@@ -5,7 +5,7 @@
 --     depends       two memories that agree on the listed bytes give the same answer and list
 --     run_then      what one rule and then another gives, and lists
 --     run_few       a rule of at most n fetches lists at most n pieces
---     run_every     what holds of the length of whatever a rule fetches holds of each listed piece; every-then: of a chain
+--     run_every     what holds of the length of whatever a rule fetches holds of each listed piece; every_then: of a chain
 --     run_gives     what holds of whatever a rule can give holds of its answer; gives_then: of a chain
 --     fetches_more, fetches_then  at most so many fetches is at most more; one rule and then another
 -- Assumes: nothing.
@@ -17,7 +17,7 @@ use mathlib.Core.List.{List, [], ◌++◌}
 use borrow.Author.Tests.{ltb-true}
 use lib.Dec.{ltb}
 use lib.ListN.{length}
-use Rattle.bit_fields.specs.Choice.{if◌then◌else◌}
+use Rattle.std.specs.Prelude.{if◌then◌else◌}
 use Rattle.memory_image.specs.Extent.{Extent, fetched}
 use Rattle.memory_image.specs.Words.{word}
 use Rattle.memory_image.specs.Rule.{Rule, done, fetch, Ran, descriptor, words_at, listed, run, and_then, Fetches, Every, Gives, Each, Lies, Agree}

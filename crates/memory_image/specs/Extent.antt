@@ -8,8 +8,7 @@
 --     wanted                   the address that a fetch which failed wanted
 -- Ours: an address is never cut off at the OAS, so a fetch that ends above it fails.
 -- Assumes: nothing.
-use Rattle.std.specs.Prelude.{ℕ, ◌+◌, ◌-◌, ◌%◌, ◌^◌, Bool, not, ◌&&◌, ◌||◌, List, eqb, leb, ltb, length, take}
-use Rattle.bit_fields.specs.Choice.{if◌then◌else◌}
+use Rattle.std.specs.Prelude.{ℕ, ◌+◌, ◌-◌, ◌%◌, ◌^◌, Bool, not, ◌&&◌, ◌||◌, List, eqb, leb, ltb, length, take, if◌then◌else◌}
 use Rattle.memory_image.specs.declared.Fetched.{Fetched}
 use Rattle.memory_image.specs.declared.Fetched.TheVariants.{At, Outside}
 

@@ -4,8 +4,7 @@
 --     word_in   the same in a lent memory, and 0 where it does not lie wholly in it
 --     word_of   a word of a descriptor, by the descriptor's place in the memory
 -- Assumes: nothing.
-use Rattle.std.specs.Prelude.{ℕ, ◌+◌, ◌*◌, ◌^◌, List, leb, ltb, get_or, length}
-use Rattle.bit_fields.specs.Choice.{if◌then◌else◌}
+use Rattle.std.specs.Prelude.{ℕ, ◌+◌, ◌*◌, ◌^◌, List, leb, ltb, get_or, length, if◌then◌else◌}
 
 abbrev pub bytes : List ℕ → ℕ → ℕ
 bytes memory offset = get_or memory offset 0

@@ -1,6 +1,8 @@
 // The lent memory: which extents are refused, words, and fetching a descriptor. Start at `fetch`.
 // Meets specs/Extent.antt and specs/Words.antt. specs/Rule.antt has the form of every rule that reads
 // descriptors, and proofs/RunLaws.antt what holds of all of them.
+#![tactic(auto)]
+
 ghost use Rattle.std.specs.Prelude.{◌≡◌, ◌+◌, ◌≤◌, length};
 ghost use Rattle.memory_image.specs.Extent.{below, end_of, extent_of, fetch_rule, refusal2, wanted};
 ghost use Rattle.memory_image.specs.Words.{bytes, word, word_of};
@@ -15,7 +17,7 @@ pub const ADDRESS_TOP: u64 = 1 << 52;
 const WORDS_MOST: usize = 8;
 
 // A descriptor that was fetched.
-#[derive(Drop)]
+#[derive(Clone, Copy)]
 pub struct Piece {
     pub address: u64,
     pub length: u64,
@@ -23,7 +25,7 @@ pub struct Piece {
 
 // What a fetch finds: the offset of the descriptor in the memory, or that it is not there to be had, with the address that
 // was wanted.
-#[derive(Drop)]
+#[derive(Clone, Copy)]
 pub enum Fetched {
     At(usize),
     Outside(u64),

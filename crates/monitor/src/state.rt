@@ -1,11 +1,14 @@
 // Where a run stands, from line to line. Start at `finish_line`.
 use book_words::BOOK_WORDS;
-use libc::STDOUT_FILENO;
 use registers::Registers;
+use std::io::Write;
+use std::rt::Stdout;
 
 // What a run holds beside its buffers.
-#[derive(Drop)]
+#[derive(Clone, Copy)]
 pub struct State {
+    // Where lines are written.
+    pub stdout: Stdout,
     pub registers: Registers,
     // The lent memory: its base, and how many of the memory's bytes are lent.
     pub base: u64,
@@ -23,7 +26,7 @@ const LONGEST: usize = 8192;
 
 impl State {
     // Where a run begins: every register 0, and no memory.
-    pub fn new() -> Self {
+    pub fn new(stdout: Stdout) -> Self {
         let registers = Registers {
             idr0: 0,
             idr1: 0,
@@ -35,6 +38,7 @@ impl State {
             strtab_base_cfg: 0,
         };
         State {
+            stdout,
             registers,
             base: 0,
             length: 0,
@@ -59,7 +63,8 @@ impl State {
 
     // Writes what waits. The run ends where it cannot be written.
     pub fn flushed(self, out: &[u8]) -> Self {
-        let written = io::write_all(STDOUT_FILENO, front(out, self.waiting));
+        let mut stdout = self.stdout;
+        let written = write_whole(&mut stdout, front(out, self.waiting));
         let empty = self.with_waiting(0);
         if written {
             return empty;
@@ -112,6 +117,19 @@ impl State {
         }
         self
     }
+}
+
+// Writes all of the bytes, and says whether it could: it stops at the first write that takes nothing or fails.
+pub fn write_whole<W: Write>(to: &mut W, bytes: &[u8]) -> bool {
+    let mut done: usize = 0;
+    while done < bytes.len() {
+        match to.write(&bytes[done..]) {
+            Ok(0) => return false,
+            Ok(n) => done += n,
+            Err(_) => return false,
+        }
+    }
+    true
 }
 
 // The first bytes of a slice, or all where it has fewer.

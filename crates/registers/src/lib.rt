@@ -1,5 +1,7 @@
 // The registers that a monitor hands over, their fields by the names of the standard, and refusal 1.
 // Meets specs/Fields.antt, specs/Sizes.antt and specs/Words.antt. Start at `Registers::refused`.
+#![tactic(auto)]
+
 ghost use Rattle.std.specs.Prelude.{◌≡◌};
 ghost use Rattle.registers.specs.Sizes.{oas_size, refusal1, size_of};
 
@@ -10,7 +12,7 @@ mod fields;
 pub const REGISTER_WORDS: usize = 7;
 
 // The eight registers of the SMMU, as read.
-#[derive(Drop)]
+#[derive(Clone, Copy)]
 pub struct Registers {
     pub idr0: u32,
     pub idr1: u32,

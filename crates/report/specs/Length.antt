@@ -5,8 +5,7 @@
 --     header_length    the header's line
 -- Ours: all of it.
 -- Assumes: nothing.
-use Rattle.std.specs.Prelude.{ℕ, ◌+◌, ◌*◌, leb, length}
-use Rattle.bit_fields.specs.Choice.{if◌then◌else◌}
+use Rattle.std.specs.Prelude.{ℕ, ◌+◌, ◌*◌, leb, length, if◌then◌else◌}
 use Rattle.book_words.specs.Layout.{slots_most}
 use Rattle.report_cells.specs.Text.{bytes}
 use Rattle.report_cells.specs.Cells.{columns, stream_digits, substream_digits, event_digits, address_digits}

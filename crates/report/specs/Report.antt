@@ -3,8 +3,7 @@
 --     report_text      the text: a header, then the held slots in rising order
 --     line_at          a slot's line
 -- Assumes: nothing.
-use Rattle.std.specs.Prelude.{ℕ, zero, suc, ◌+◌, ◌-◌, ◌≡◌, List, [], ◌++◌, eqb, ltb, length}
-use Rattle.bit_fields.specs.Choice.{if◌then◌else◌}
+use Rattle.std.specs.Prelude.{ℕ, zero, suc, ◌+◌, ◌-◌, ◌≡◌, List, [], ◌++◌, eqb, ltb, length, if◌then◌else◌}
 use Rattle.ids.specs.Packing.{unpacked}
 use Rattle.ids.specs.declared.Unpacked.{Unpacked}
 use Rattle.ids.specs.declared.Unpacked.TheVariants as request

@@ -1,5 +1,7 @@
 // The book as text, in a lent buffer. Start at `report`.
 // Meets specs/Report.antt; what stands in a line is in report_cells. A refused call leaves every byte.
+#![tactic(auto)]
+
 ghost use Rattle.std.specs.Prelude.{◌≡◌, ◌+◌, ◌≤◌, ◌<◌, get_or, length};
 ghost use Rattle.book_words.specs.Layout.{slots_most};
 ghost use Rattle.report.specs.Report.{Put, Reported, line_at, lines_from, report_text};
@@ -11,7 +13,7 @@ use report_cells::{Entry, Line};
 mod put;
 
 // What a report says: a refusal's number, or the length that was written.
-#[derive(Drop)]
+#[derive(Clone, Copy)]
 pub enum Written {
     Refused(u64),
     Length(usize),

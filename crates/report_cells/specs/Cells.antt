@@ -2,8 +2,7 @@
 --     line_text       a line: its cells parted by one tab, and a line feed: start here
 --     cell_text       a line's cell in a column: 0 slot, 1 stream, 2 substream, 3 outcome, 4 event, 5 address
 -- Assumes: nothing.
-use Rattle.std.specs.Prelude.{ℕ, zero, suc, ◌+◌, ◌-◌, Bool, true, false, List, [], ◌∷◌, ◌++◌, eqb}
-use Rattle.bit_fields.specs.Choice.{if◌then◌else◌}
+use Rattle.std.specs.Prelude.{ℕ, zero, suc, ◌+◌, ◌-◌, Bool, true, false, List, [], ◌∷◌, ◌++◌, eqb, if◌then◌else◌}
 use Rattle.ids.specs.declared.Request.{Request}
 use Rattle.ids.specs.declared.Substream.{Substream}
 use Rattle.ids.specs.declared.Substream.TheVariants.{Without, With}

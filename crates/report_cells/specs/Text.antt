@@ -4,11 +4,10 @@
 --     hex_lower, hex_upper, decimal_text, slot_text  those that the report has
 --     Spells            what a cell of the code says
 -- Assumes: nothing.
-use Rattle.std.specs.Prelude.{ℕ, zero, suc, ◌/◌, ◌%◌, ◌≤◌, ◌≡◌, List, [], ◌∷◌, ◌++◌, ltb, get_or}
+use Rattle.std.specs.Prelude.{ℕ, zero, suc, ◌/◌, ◌%◌, ◌≤◌, ◌≡◌, List, [], ◌∷◌, ◌++◌, ltb, get_or, if◌then◌else◌}
 use Prim.Native.Char.{code}
 use Prim.Native.String.{String, [] as end, ◌∷◌ as ◌before◌}
 use Rattle.placed.specs.From.{from}
-use Rattle.bit_fields.specs.Choice.{if◌then◌else◌}
 use Rattle.report_cells.specs.declared.Cell.{Cell}
 
 abbrev pub bytes : String → List ℕ

@@ -1,5 +1,7 @@
 // What stands in each cell of the report, as bytes. Start at `cell_of`.
 // Meets specs/Cells.antt; the digits and the words are those of specs/Text.antt.
+#![tactic(auto)]
+
 ghost use Rattle.std.specs.Prelude.{◌≡◌};
 ghost use Rattle.report_cells.specs.Text.{Spells};
 ghost use Rattle.report_cells.specs.Cells.{cell_text, columns_of, ending_of, kept_text};
@@ -18,14 +20,14 @@ pub const CELL_MOST: usize = 16;
 const COLUMNS: usize = 6;
 
 // The text of a cell: the first `count` of the bytes.
-#[derive(Drop)]
+#[derive(Clone, Copy)]
 pub struct Cell {
     pub count: usize,
     pub byte: [u8; CELL_MOST],
 }
 
 // What a slot holds, and what its outcome is read by.
-#[derive(Drop)]
+#[derive(Clone, Copy)]
 pub struct Entry {
     pub slot: u64,
     pub registers: Registers,
@@ -34,7 +36,7 @@ pub struct Entry {
 }
 
 // A line of the report; an empty slot has none.
-#[derive(Drop)]
+#[derive(Clone, Copy)]
 pub enum Line {
     Nothing,
     Header,

@@ -1,8 +1,7 @@
 -- Where an edit's bytes lie (SCRIPT, "What is wrong with a line": "Sums and products are exact, past 2^64").
 --     place_rule    the offset in the lent memory at which they begin, if all of them lie in it
 -- Assumes: nothing.
-use Rattle.std.specs.Prelude.{ℕ, ◌+◌, ◌-◌, ◌*◌, ◌&&◌, leb}
-use Rattle.bit_fields.specs.Choice.{if◌then◌else◌}
+use Rattle.std.specs.Prelude.{ℕ, ◌+◌, ◌-◌, ◌*◌, ◌&&◌, leb, if◌then◌else◌}
 use Rattle.script.specs.declared.edits.Place.{Place}
 use Rattle.script.specs.declared.edits.Place.TheVariants.{At, Outside}
 

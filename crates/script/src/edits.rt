@@ -45,7 +45,7 @@ fn put(line: &[u8], word: usize, address: Given, times: Given, base: u64, length
 }
 
 // Where an edit's bytes lie in the memory.
-#[derive(Drop)]
+#[derive(Clone, Copy)]
 enum Place {
     At(u64),
     Outside,

@@ -1,5 +1,7 @@
 // What a line of a script says: what there is to do, nothing, or that it is wrong. Start at `read`.
 // That goes by the line and by where the lent memory lies. Nothing is done here.
+#![tactic(auto)]
+
 use edits::{fill, write};
 use ids::Request;
 use kept::{notice, open};
@@ -18,7 +20,7 @@ mod settings;
 // The most bytes of memory that a script can ask for: the program holds so many itself.
 pub const MEMORY_HELD: u64 = 65536;
 
-#[derive(Drop)]
+#[derive(Clone, Copy)]
 pub enum Said {
     // An empty line, or a comment.
     Nothing,

@@ -1,6 +1,6 @@
 // The names that a script uses: commands and registers.
 
-#[derive(Drop)]
+#[derive(Clone, Copy)]
 pub enum Command {
     Register,
     Memory,
@@ -55,7 +55,7 @@ fn of_the_book(word: &[u8]) -> Command {
     Command::Unknown
 }
 
-#[derive(Drop)]
+#[derive(Clone, Copy)]
 pub enum Register {
     Idr0,
     Idr1,

@@ -29,7 +29,7 @@ pub fn first(a: u64, b: u64) -> u64 {
 }
 
 // A word taken as a number: what is wrong with it, and its value where nothing is.
-#[derive(Drop)]
+#[derive(Clone, Copy)]
 pub struct Given {
     pub wrong: u64,
     pub number: u64,

@@ -28,7 +28,7 @@ pub fn ask(line: &[u8], count: usize) -> Said {
 }
 
 // A request, or why there is none.
-#[derive(Drop)]
+#[derive(Clone, Copy)]
 enum Made {
     Is(Request),
     Wrong(u64),

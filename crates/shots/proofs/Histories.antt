@@ -10,8 +10,8 @@ use mathlib.Core.Logic.{inr}
 use borrow.Author.Tests.{eqb-true, eq-eqb, ne_eqb, le-leb, lt-ltb, le-ltb}
 use lib.Dec.{eqb, leb, ltb}
 use lib.ListN.{length, get_or}
-use Rattle.bit_fields.specs.Choice.{if◌then◌else◌}
-use Rattle.number_laws.proofs.Tests.{not_both, both}
+use Rattle.std.specs.Prelude.{if◌then◌else◌}
+use Rattle.number_laws.proofs.Tests.{not_both}
 use Rattle.placed.specs.From.{values_from, tab}
 use Rattle.placed.proofs.FromLaws.{values_same}
 use Rattle.ids.specs.Ids.{refusal3}
@@ -60,7 +60,7 @@ use Rattle.book_history.proofs.Claims.{never_malformed, header_stays, still_good
 use Rattle.book_history.proofs.Uses.{never_refused_seven}
 use Rattle.shots.specs.Shots.{Shot, plain, stage1, figure, piece, translates, byte_of, whole}
 use Rattle.shots.specs.Claims.{Right}
-use Rattle.shots.specs.Histories.{memory_of, bench_memory, plainly, key, Keys, OneAskedIn, OneAsked, TwoAsked, BothStruck, SlotUsedAgain, FullAndKept, substreamed, third, fourth, Staged, ThreeAndFour, says, Caught, StaleCaught, past_the_end, wants, AddressCaught, beside, EdgesLeaveIt, AboveNeverCounts, sample, SampleReport}
+use Rattle.shots.specs.Histories.{memory_of, bench_memory, plainly, key, Keys, OneAskedIn, OneAsked, TwoAsked, BothStruck, SlotUsedAgain, FullAndKept, substreamed, third, fourth, Staged, ThreeAndFour, Caught, StaleCaught, past_the_end, wants, AddressCaught, beside, EdgesLeaveIt, AboveNeverCounts, sample, SampleReport}
 use Rattle.shots.proofs.Claims.{tab_length, tab_at, real_shots, real_faults, real}
 
 -- words that a book has after some history
@@ -467,8 +467,8 @@ module _ (ws : List ℕ) (two : TwoAsked 188 256 ws) where
       other memory told after promise =
           let there : Asks two_booked.bench.words 64 memory (plainly 768) told after = rw two_booked.same promise in
           let refused : told ≡ refused_with 6
-          = (never_refused_seven two_booked.bench two_booked.begun).asked_of 64 memory (plainly 768) told after there (rw two_booked.same) in
-          (refused, (holds_what_it_held 6).asked_of held2 64 memory (plainly 768) told after promise (ap (λ (a : Asked). a.reply) refused))
+          = (never_refused_seven two_booked.bench two_booked.begun).asked_for 64 memory (plainly 768) told after there (rw two_booked.same) in
+          (refused, (holds_what_it_held 6).asked_for held2 64 memory (plainly 768) told after promise (ap (λ (a : Asked). a.reply) refused))
 
 -- a book of four slots, with lists of three, of four and of two
 module _ (ws : List ℕ) (staged : Staged ws) where

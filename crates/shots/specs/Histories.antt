@@ -10,8 +10,7 @@
 --     AboveNeverCounts OutsideNeverCounts: whatever bytes lie above the memory that is lent
 --     SampleReport     the report of the rules
 -- Assumes: nothing.
-use Rattle.std.specs.Prelude.{ℕ, ◌+◌, ◌≤◌, ◌<◌, ◌≡◌, Bool, ◌||◌, List, [], ◌∷◌, ◌++◌, eqb, get_or, length}
-use Rattle.bit_fields.specs.Choice.{if◌then◌else◌}
+use Rattle.std.specs.Prelude.{ℕ, ◌+◌, ◌≤◌, ◌<◌, ◌≡◌, Bool, ◌||◌, List, [], ◌∷◌, ◌++◌, eqb, get_or, length, if◌then◌else◌}
 use Rattle.placed.specs.From.{tab}
 use Rattle.ids.specs.declared.Request.{Request}
 use Rattle.ids.specs.declared.Substream.TheVariants.{Without, With}

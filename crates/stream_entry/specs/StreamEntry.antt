@@ -6,9 +6,8 @@
 -- Ours: Config 100 with a SubstreamID is C_BAD_SUBSTREAMID (5). S1Fmt, S1DSS and S1CDMax are read as stored, which the checks of step 6 need; 003
 -- has 3 behave as 0 in the first two (`% 3`), and ignores S1CDMax where SSIDSIZE is 0. Every rule reads them by these definitions.
 -- Assumes: nothing.
-use Rattle.std.specs.Prelude.{ℕ, ◌*◌, ◌^◌, Bool, not, ◌&&◌, ◌||◌, eqb, leb, ltb}
+use Rattle.std.specs.Prelude.{ℕ, ◌*◌, ◌^◌, Bool, not, ◌&&◌, ◌||◌, eqb, leb, ltb, if◌then◌else◌}
 use Rattle.bit_fields.specs.Bits.{bits, bits_of}
-use Rattle.bit_fields.specs.Choice.{if◌then◌else◌}
 use Rattle.ids.specs.declared.Substream.{Substream}
 use Rattle.ids.specs.declared.Substream.TheVariants.{Without, With}
 use Rattle.registers.specs.Fields.{s1p, s2p, hyp, cd2l, ssid_size}

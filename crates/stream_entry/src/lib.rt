@@ -1,5 +1,7 @@
 // What an STE says. Start at `read_ste`.
 // Meets specs/StreamEntry.antt; the STE is handed over as its place in the memory, and its fields are in fields.rt.
+#![tactic(auto)]
+
 ghost use Rattle.std.specs.Prelude.{◌≡◌, ◌<◌};
 ghost use Rattle.memory_image.specs.Words.{word_of};
 ghost use Rattle.stream_entry.specs.StreamEntry.{bad_stage1, bypass_rule, not_there, stage1_rule, ste_rule, with_id, without_id};
@@ -12,7 +14,7 @@ use registers::Registers;
 pub mod fields;
 
 // How the lookup ends at the STE, or the index of the CD that it goes on to.
-#[derive(Drop)]
+#[derive(Clone, Copy)]
 pub enum Entry {
     Ended(Outcome),
     Stage1(u32),

@@ -8,9 +8,8 @@
 --     stes_held, leaf_rule   steps 5 and 6, from what the L1STD says
 -- The STE itself is fetched by whoever asks where it is.
 -- Assumes: nothing.
-use Rattle.std.specs.Prelude.{ℕ, ◌+◌, ◌-◌, ◌*◌, ◌^◌, min, max, Bool, not, ◌||◌, eqb, leb, ltb}
+use Rattle.std.specs.Prelude.{ℕ, ◌+◌, ◌-◌, ◌*◌, ◌^◌, min, max, Bool, not, ◌||◌, eqb, leb, ltb, if◌then◌else◌}
 use Rattle.bit_fields.specs.Bits.{bits, high, low, aligned_down}
-use Rattle.bit_fields.specs.Choice.{if◌then◌else◌}
 use Rattle.registers.specs.Fields.{smmu_en, abort, log2_size, sid_size, st_level, fmt, split, addr}
 use Rattle.registers.specs.declared.Registers.{Registers}
 use Rattle.memory_image.specs.Rule.{Rule, done, fetch}

@@ -1,5 +1,7 @@
 // Where a stream's STE lies. Start at `find_ste`.
 // Meets specs/StreamTable.antt; reads only through `memory_image::fetch`.
+#![tactic(auto)]
+
 ghost use Rattle.std.specs.Prelude.{◌≡◌};
 ghost use Rattle.answers.specs.Walk.{Walks};
 ghost use Rattle.stream_table.specs.StreamTable.{is_linear, l1std_at, leaf_rule, linear_at, log2, split_of, stes_held, stream_rule, switched_off, two_level_rule};
@@ -11,14 +13,14 @@ use memory_image::Fetched;
 use registers::Registers;
 
 // Where the STE is, or how the lookup ends before there is one.
-#[derive(Drop)]
+#[derive(Clone, Copy)]
 pub enum Found {
     Ste(u64),
     Ended(Outcome),
 }
 
 // What an L1STD's Span says of its leaf.
-#[derive(Drop)]
+#[derive(Clone, Copy)]
 pub enum Leaf {
     Invalid,
     Holds(u64),

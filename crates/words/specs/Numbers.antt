@@ -2,8 +2,7 @@
 --     number_rule           what a word is as a number
 --     is_pairs, pair_rule   whether a word is pairs of hexadecimal digits; the byte that a pair says
 -- Assumes: nothing.
-use Rattle.std.specs.Prelude.{ℕ, ◌+◌, ◌-◌, ◌*◌, ◌/◌, ◌%◌, ◌^◌, Bool, true, ◌&&◌, List, [], ◌∷◌, eqb, leb, ltb, length, drop, get_or}
-use Rattle.bit_fields.specs.Choice.{if◌then◌else◌}
+use Rattle.std.specs.Prelude.{ℕ, ◌+◌, ◌-◌, ◌*◌, ◌/◌, ◌%◌, ◌^◌, Bool, true, ◌&&◌, List, [], ◌∷◌, eqb, leb, ltb, length, drop, get_or, if◌then◌else◌}
 use Rattle.words.specs.declared.numbers.Value.{Value}
 use Rattle.words.specs.declared.numbers.Value.TheVariants.{Is, TooLarge, NotOne}
 

@@ -3,8 +3,7 @@
 --     without_return    a line without the one carriage return that it may end with
 --     stops, passed     where a word or a run of blanks ends, for the code's own steps
 -- Assumes: nothing.
-use Rattle.std.specs.Prelude.{ℕ, suc, ◌-◌, Bool, not, ◌||◌, List, [], ◌∷◌, ◌++◌, eqb, length, take, get_or}
-use Rattle.bit_fields.specs.Choice.{if◌then◌else◌}
+use Rattle.std.specs.Prelude.{ℕ, suc, ◌-◌, Bool, not, ◌||◌, List, [], ◌∷◌, ◌++◌, eqb, length, take, get_or, if◌then◌else◌}
 
 -- a space or a tab
 unfoldable pub is_blank : ℕ → Bool

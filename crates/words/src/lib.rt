@@ -1,6 +1,8 @@
 // The words of a line of a script: parted by one or more blanks, which are spaces and tabs. Every other
 // byte belongs to a word. Start at `nth`. What a word says as a number or as bytes is in `numbers`.
 // Meets specs/Words.antt.
+#![tactic(auto)]
+
 ghost use Rattle.std.specs.Prelude.{◌≡◌, false, true, [], ◌+◌, ◌≤◌, drop, get_or, length};
 ghost use Rattle.words.specs.Words.{passed, stops, without_return, words_of};
 

@@ -1,0 +1,11 @@
+-- Proof of `stream_table::two_level`.
+-- Assumes: nothing.
+use borrow.Author.Rules.{rules}
+use Rattle.stream_table.proofs.StreamLaws.{two_fault, two_read}
+use Rattle.stream_table.proofs.two_level.Goals as goal
+
+pub returns-in_default : goal.returns-in_default
+returns-in_default c = search (rules, two_fault)
+
+pub returns : goal.returns
+returns c = search (rules, two_read)
