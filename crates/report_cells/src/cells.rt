@@ -91,6 +91,7 @@ pub fn event(outcome: Outcome) -> Cell
 }
 
 // Lower-case hexadecimal digits for the address that a failed fetch wanted, or `-`.
+#[tactic(auto, using(crate::proofs::CellsLaws::address_spelled), unfolding(crate::specs::Cells::address_text))]
 pub fn address(outcome: Outcome) -> Cell
     ensures { Spells result (address_text outcome) }
 {
