@@ -5,18 +5,15 @@
 --     outcome_again                      an outcome that was read is read again
 --     stands_proper                      the words of a proper answer stand
 --     outcome_proper, stands_count       of words that stand: the outcome is proper, there are at most as many pieces as a list has
---     of_translate .. of_quiet           the outcome by the words' kind; of_fault, of_other: an abort by its event
---     low_kind, high_kind, outcome_unfit, list_decides  the tests of `stands` in order
 --     put_words                          an outcome put before a list: the words of both
---     put_translate .. put_unserved      what is put, by the outcome's cases
 -- Assumes: nothing.
-use Prim.Native.Nat.{ℕ, ◌+◌, ◌≤◌, ◌<◌}
+use Prim.Native.Nat.{ℕ, ◌+◌, ◌≤◌}
 use native.Mathlib.Nat.{add-zero}
 use native.Mathlib.Omega.{arith}
-use mathlib.Core.Path.{◌≡◌, refl, sym, ap, ◌∙◌}
-use mathlib.Core.Bool.{Bool, true, false, not}
+use mathlib.Core.Path.{◌≡◌, refl, sym, ap}
+use mathlib.Core.Bool.{Bool, true, false}
 use mathlib.Core.List.{List, [], ◌∷◌, ◌++◌, append_assoc}
-use borrow.Author.Tests.{eq-eqb, ne_eqb, le-leb, lt-leb, not-true, not-false}
+use borrow.Author.Tests.{le-leb, not-true}
 use lib.Dec.{eqb, leb}
 use lib.ListN.{length, get_or, length-append}
 use lib.Seq.{get_or-append-add}
@@ -32,11 +29,10 @@ use Rattle.answers.specs.Pieces.{only_list}
 use Rattle.answers.specs.Proper.{proper_outcome, proper_pieces}
 use Rattle.answers.specs.declared.Outcome.{Outcome}
 use Rattle.answers.specs.declared.Outcome.TheVariants.{Translate, Bypass, BypassGlobal, Abort, Fault, Quiet, Unserved}
-use Rattle.answers.specs.declared.Translation.{Translation}
 use Rattle.answers.specs.declared.Pieces.{Pieces}
 use Rattle.answers.proofs.PiecesLaws.{piece_numbers, words_numbers}
 use Rattle.answers.proofs.ProperLaws.{listed_no_fetch, few_proper}
-use Rattle.answer_words.specs.AnswerWords.{laid_out, words_of, translation_in, aborted, own_event, outcome_of, pieces_in, list_of, stands, put_from, outcome_put}
+use Rattle.answer_words.specs.AnswerWords.{laid_out, words_of, aborted, own_event, outcome_of, pieces_in, list_of, stands, outcome_put}
 
 pub words_length : (o : Outcome) (l : Pieces) → length (words_of o l) ≡ answer_words
 unfolding words_of laid_out values_from
@@ -168,70 +164,6 @@ module _ (ws : List ℕ) (stand : stands ws ≡ true) where
   pub stands_count : (list_of ws).count ≤ pieces_most
   stands_count = few_proper (list_of ws) parts.1
 
--- an abort, by its event
-module _ (event address : ℕ) {fetch : Bool} (is : fetch ≡ fetch_event event) where
-  pub of_fault : fetch ≡ true → Fault event address ≡ aborted event address
-  unfolding aborted
-  of_fault so = simp (← is, so)
-
-  pub of_other : fetch ≡ false → Abort event ≡ aborted event address
-  unfolding aborted
-  of_other not_so = simp (← is, not_so)
-
--- the outcome, by the words' kind
-module _ (ws : List ℕ) where
-  pub of_translate : get_or ws kind_at 0 ≡ 1 → {t : Translation} → t ≡ translation_in ws → Translate t ≡ outcome_of ws
-  unfolding outcome_of
-  of_translate is read = rw read (simp (eq-eqb _ _ is))
-
-  module _ (not_one : get_or ws kind_at 0 ≡ 1 → ⊥) where
-    pub of_bypass : get_or ws kind_at 0 ≡ 2 → Bypass (get_or ws values_at 0) ≡ outcome_of ws
-    unfolding outcome_of
-    of_bypass is = simp (ne_eqb _ _ not_one, eq-eqb _ _ is)
-
-    module _ (not_two : get_or ws kind_at 0 ≡ 2 → ⊥) where
-      pub of_global : get_or ws kind_at 0 ≡ 3 → BypassGlobal ≡ outcome_of ws
-      unfolding outcome_of
-      of_global is = simp (ne_eqb _ _ not_one, ne_eqb _ _ not_two, eq-eqb _ _ is)
-
-      module _ (not_three : get_or ws kind_at 0 ≡ 3 → ⊥) where
-        pub of_abort : get_or ws kind_at 0 ≡ 4 → {o : Outcome} → o ≡ aborted (get_or ws values_at 0) (get_or ws (values_at + 1) 0) → o ≡ outcome_of ws
-        unfolding outcome_of
-        of_abort is read = read ∙ simp (ne_eqb _ _ not_one, ne_eqb _ _ not_two, ne_eqb _ _ not_three, eq-eqb _ _ is)
-
-        module _ (not_four : get_or ws kind_at 0 ≡ 4 → ⊥) where
-          pub of_unserved : get_or ws kind_at 0 ≡ 6 → Unserved (get_or ws values_at 0) ≡ outcome_of ws
-          unfolding outcome_of
-          of_unserved is =
-              simp (ne_eqb _ _ not_one, ne_eqb _ _ not_two, ne_eqb _ _ not_three, ne_eqb _ _ not_four, eq-eqb _ _ is)
-
-          pub of_quiet : (get_or ws kind_at 0 ≡ 6 → ⊥) → Quiet ≡ outcome_of ws
-          unfolding outcome_of
-          of_quiet not_six =
-              simp (ne_eqb _ _ not_one, ne_eqb _ _ not_two, ne_eqb _ _ not_three, ne_eqb _ _ not_four, ne_eqb _ _ not_six)
-
--- the tests of `stands`, in order
-module _ (ws : List ℕ) where
-  pub low_kind : get_or ws kind_at 0 < 1 → false ≡ stands ws
-  unfolding stands
-  low_kind low = simp (lt-leb _ _ low)
-
-  module _ (least : 1 ≤ get_or ws kind_at 0) where
-    pub high_kind : kinds_most < get_or ws kind_at 0 → false ≡ stands ws
-    unfolding stands
-    high_kind high = simp (le-leb _ _ least, lt-leb _ _ high)
-
-    module _ (most : get_or ws kind_at 0 ≤ kinds_most) {outcome : Outcome} (read : outcome ≡ outcome_of ws) {fits : Bool} (test : fits ≡ proper_outcome outcome) where
-      pub outcome_unfit : not fits ≡ true → false ≡ stands ws
-      unfolding stands
-      outcome_unfit bad = simp (le-leb _ _ least, le-leb _ _ most, ← read, ← test, not-true fits bad)
-
-      pub list_decides :
-          not fits ≡ false → {l : Pieces} → l ≡ list_of ws → {last : Bool} → last ≡ proper_pieces l → last ≡ stands ws
-      unfolding stands
-      list_decides good listed tested =
-          rw tested (simp (le-leb _ _ least, le-leb _ _ most, ← read, ← test, not-false fits good, ← listed))
-
 -- an outcome put before a list
 pub put_words : (l : Pieces) (o : Outcome) → outcome_put (only_list l) o ≡ words_of o l
 unfolding outcome_put only_list words_of laid_out values_from
@@ -242,30 +174,3 @@ put_words l (Abort event) = refl
 put_words l (Fault event address) = refl
 put_words l Quiet = refl
 put_words l (Unserved n) = refl
-
-module _ (ws : List ℕ) {o : Outcome} {after : List ℕ} where
-  put_is : {other : Outcome} → o ≡ other → after ≡ put_from ws (kind_of other ∷ values_of other) kind_at → after ≡ outcome_put ws o
-  unfolding outcome_put
-  put_is is put = rw is put
-
-  pub put_translate : {t : Translation} → o ≡ Translate t → after ≡ put_from ws (1 ∷ values_of (Translate t)) kind_at → after ≡ outcome_put ws o
-  put_translate is put = put_is is put
-
-  pub put_bypass : {ste : ℕ} → o ≡ Bypass ste → after ≡ put_from ws (2 ∷ (ste ∷ [])) kind_at → after ≡ outcome_put ws o
-  put_bypass is put = put_is is put
-
-  pub put_global : o ≡ BypassGlobal → after ≡ put_from ws (3 ∷ []) kind_at → after ≡ outcome_put ws o
-  put_global is put = put_is is put
-
-  pub put_abort : {event : ℕ} → o ≡ Abort event → after ≡ put_from ws (4 ∷ (event ∷ [])) kind_at → after ≡ outcome_put ws o
-  put_abort is put = put_is is put
-
-  pub put_fault :
-      {event address : ℕ} → o ≡ Fault event address → after ≡ put_from ws (4 ∷ (event ∷ (address ∷ []))) kind_at → after ≡ outcome_put ws o
-  put_fault is put = put_is is put
-
-  pub put_quiet : o ≡ Quiet → after ≡ put_from ws (5 ∷ []) kind_at → after ≡ outcome_put ws o
-  put_quiet is put = put_is is put
-
-  pub put_unserved : {n : ℕ} → o ≡ Unserved n → after ≡ put_from ws (6 ∷ (n ∷ [])) kind_at → after ≡ outcome_put ws o
-  put_unserved is put = put_is is put

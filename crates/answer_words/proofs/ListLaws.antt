@@ -1,5 +1,6 @@
--- The list in an answer's words, as loops read and copy it.
+-- The list in an answer's words, as it is read and copied.
 --     Taken, taken_none, taken_more, taken_all     the pieces into an array: none so far, one more, all
+--     list_of_ways                                 what the check of `list_of` cites
 --     zeros_none                                   zeros hold no list
 --     list_length                                  a list's array has room for the most
 --     Copied, copied_none, copied_more, copied_put  the list's words into others: none so far, one more, all and the outcome before them
@@ -137,3 +138,5 @@ module _ (ws : List ℕ) where
 pub zeros_none : list_of (replicate answer_words 0) ≡ none
 unfolding list_of none
 zeros_none = refl
+
+pub ruleset list_of_ways = (taken_none, taken_more, taken_all)

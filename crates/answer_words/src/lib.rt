@@ -16,32 +16,24 @@ pub mod outcome;
 mod proper;
 
 // The outcome that words stand for, by their kind; a quiet abort where that is none.
+#[tactic(auto, unfolding(crate::specs::AnswerWords::outcome_of))]
 pub fn outcome_of(words: &[u64; ANSWER_WORDS]) -> Outcome
     ensures { result ≡ outcome_of words.now }
 {
     let kind = words[KIND_AT];
     let value = words[VALUES_AT];
-    if kind == TRANSLATE {
-        let t = outcome::translation_in(words);
-        return Outcome::Translate(t);
+    match kind {
+        TRANSLATE => Outcome::Translate(outcome::translation_in(words)),
+        BYPASS => Outcome::Bypass(value),
+        BYPASS_GLOBAL => Outcome::BypassGlobal,
+        ABORT => outcome::aborted(value, words[VALUES_AT + 1]),
+        UNSERVED => Outcome::Unserved(value),
+        _ => Outcome::Quiet,
     }
-    if kind == BYPASS {
-        return Outcome::Bypass(value);
-    }
-    if kind == BYPASS_GLOBAL {
-        return Outcome::BypassGlobal;
-    }
-    if kind == ABORT {
-        let address = words[VALUES_AT + 1];
-        return outcome::aborted(value, address);
-    }
-    if kind == UNSERVED {
-        return Outcome::Unserved(value);
-    }
-    Outcome::Quiet
 }
 
 // The list that words hold.
+#[tactic(auto, using(crate::proofs::ListLaws::list_of_ways))]
 pub fn list_of(words: &[u64; ANSWER_WORDS]) -> Pieces
     ensures { result ≡ list_of words.now }
 {
@@ -49,29 +41,27 @@ pub fn list_of(words: &[u64; ANSWER_WORDS]) -> Pieces
         address: 0,
         length: 0,
     };
-    let mut piece = [nothing; PIECES_MOST];
-    let mut i: usize = 0;
-    while i < PIECES_MOST {
+    let mut pieces = [nothing; PIECES_MOST];
+    for (i, piece) in pieces.iter_mut().enumerate() {
         let at = PIECES_AT + 2 * i;
-        let next = at + 1;
         let address = words[at];
-        let length = words[next];
-        piece[i] = Piece { address, length };
-        i += 1;
+        let length = words[at + 1];
+        *piece = Piece { address, length };
     }
     let count = words[COUNT_AT];
-    Pieces { count, piece }
+    Pieces {
+        count,
+        piece: pieces,
+    }
 }
 
 // Whether words stand for an answer: their kind is one, and the outcome and the list are such as a lookup gives.
+#[tactic(auto, unfolding(crate::specs::AnswerWords::stands))]
 pub fn is_answer(words: &[u64; ANSWER_WORDS]) -> bool
     ensures { result ≡ stands words.now }
 {
     let kind = words[KIND_AT];
-    if kind < TRANSLATE {
-        return false;
-    }
-    if UNSERVED < kind {
+    if !matches!(kind, TRANSLATE..=UNSERVED) {
         return false;
     }
     let outcome = outcome_of(words);
@@ -82,15 +72,14 @@ pub fn is_answer(words: &[u64; ANSWER_WORDS]) -> bool
     proper::is_list(list)
 }
 
-// The answer that words stand for, as the words of that answer: those that its kind has no value for become 0.
+// The answer that words stand for, as the words of that answer: those that its kind has no value for become 0. Word by word,
+// as `book_words::block`.
 pub fn give(kept: &[u64; ANSWER_WORDS], words: &mut [u64; ANSWER_WORDS])
     ensures { words.new ≡ words_of (outcome_of kept.now) (list_of kept.now) }
 {
     *words = [0u64; ANSWER_WORDS];
-    let mut j: usize = 0;
-    while j < LIST_WORDS {
+    for j in 0..LIST_WORDS {
         words[COUNT_AT + j] = kept[COUNT_AT + j];
-        j += 1;
     }
     let outcome = outcome_of(kept);
     outcome::put_outcome(words, outcome);

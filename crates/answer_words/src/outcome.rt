@@ -1,14 +1,13 @@
 // An outcome's words: the kind, and the values in their order. Start at `put_outcome`.
 // Meets specs/AnswerWords.antt; the order of the values is that of `values_of` of answers.
-ghost use Rattle.std.specs.Prelude.{◌≡◌, [], ◌∷◌};
-ghost use Rattle.answers.specs.declared.Outcome.TheVariants.{Translate};
-ghost use Rattle.answers.specs.Layout.{kind_at};
-ghost use Rattle.answers.specs.Values.{values_of};
+ghost use Rattle.std.specs.Prelude.{◌≡◌, ◌≤◌, ◌∷◌};
+ghost use Rattle.answers.specs.Layout.{kind_at, values_most};
 ghost use Rattle.answer_words.specs.AnswerWords.{aborted, outcome_put, put_from, translation_in};
 
 use answers::{ANSWER_WORDS, KIND_AT, Outcome, Translation, VALUES_AT};
 
-// The kinds; any other number stands for no answer.
+// The kinds; any other number stands for no answer. Any number may stand where a kind
+// does, and what it stands for then is part of the promise of `outcome_of`: so they are numbers.
 pub const TRANSLATE: u64 = 1;
 
 pub const BYPASS: u64 = 2;
@@ -46,6 +45,7 @@ pub fn translation_in(words: &[u64; ANSWER_WORDS]) -> Translation
 }
 
 // An abort by its event: one of a failed fetch has the address that was wanted.
+#[tactic(auto, unfolding(crate::specs::AnswerWords::aborted))]
 pub fn aborted(event: u64, address: u64) -> Outcome
     ensures { result ≡ aborted event address }
 {
@@ -55,56 +55,33 @@ pub fn aborted(event: u64, address: u64) -> Outcome
     Outcome::Abort(event)
 }
 
-// A kind without a value.
-fn put_kind(words: &mut [u64; ANSWER_WORDS], kind: u64)
-    ensures { words.new ≡ put_from words.old (kind ∷ []) kind_at }
+// A kind, and its values in their order.
+fn put<const N: usize>(words: &mut [u64; ANSWER_WORDS], kind: u64, values: [u64; N])
+    requires { N ≤ values_most }
+    ensures { words.new ≡ put_from words.old (kind ∷ values.entry) kind_at }
 {
     words[KIND_AT] = kind;
-}
-
-// A kind and its one value.
-fn put_value(words: &mut [u64; ANSWER_WORDS], kind: u64, value: u64)
-    ensures { words.new ≡ put_from words.old (kind ∷ (value ∷ [])) kind_at }
-{
-    words[KIND_AT] = kind;
-    words[VALUES_AT] = value;
-}
-
-// A fault: an abort's kind, the event, and the address that was wanted.
-fn put_fault(words: &mut [u64; ANSWER_WORDS], event: u64, address: u64)
-    ensures { words.new ≡ put_from words.old (4 ∷ (event ∷ (address ∷ []))) kind_at }
-{
-    words[KIND_AT] = ABORT;
-    words[VALUES_AT + 0] = event;
-    words[VALUES_AT + 1] = address;
-}
-
-// A translation's kind and its values.
-fn put_translation(words: &mut [u64; ANSWER_WORDS], t: Translation)
-    ensures { words.new ≡ put_from words.old (1 ∷ values_of (Translate t)) kind_at }
-{
-    words[KIND_AT] = TRANSLATE;
-    words[VALUES_AT + 0] = t.ste;
-    words[VALUES_AT + 1] = t.cd;
-    words[VALUES_AT + 2] = t.asid;
-    words[VALUES_AT + 3] = t.t0sz;
-    words[VALUES_AT + 4] = t.tg0;
-    words[VALUES_AT + 5] = t.epd0;
-    words[VALUES_AT + 6] = t.ips;
-    words[VALUES_AT + 7] = t.ttb0;
+    for i in 0..N {
+        words[VALUES_AT + i] = values[i];
+    }
 }
 
 // Puts an outcome before the list that words hold.
+#[tactic(auto, unfolding(crate::specs::AnswerWords::outcome_put))]
 pub fn put_outcome(words: &mut [u64; ANSWER_WORDS], outcome: Outcome)
     ensures { words.new ≡ outcome_put words.old outcome }
 {
     match outcome {
-        Outcome::Translate(t) => put_translation(words, t),
-        Outcome::Bypass(ste) => put_value(words, BYPASS, ste),
-        Outcome::BypassGlobal => put_kind(words, BYPASS_GLOBAL),
-        Outcome::Abort(event) => put_value(words, ABORT, event),
-        Outcome::Fault(event, address) => put_fault(words, event, address),
-        Outcome::Quiet => put_kind(words, QUIET),
-        Outcome::Unserved(case) => put_value(words, UNSERVED, case),
+        Outcome::Translate(t) => put(
+            words,
+            TRANSLATE,
+            [t.ste, t.cd, t.asid, t.t0sz, t.tg0, t.epd0, t.ips, t.ttb0],
+        ),
+        Outcome::Bypass(ste) => put(words, BYPASS, [ste]),
+        Outcome::BypassGlobal => put(words, BYPASS_GLOBAL, []),
+        Outcome::Abort(event) => put(words, ABORT, [event]),
+        Outcome::Fault(event, address) => put(words, ABORT, [event, address]),
+        Outcome::Quiet => put(words, QUIET, []),
+        Outcome::Unserved(case) => put(words, UNSERVED, [case]),
     }
 }

@@ -7,6 +7,7 @@ use answers::{Outcome, Pieces, Translation};
 use memory_image::Piece;
 
 // The fields of a translation have their widths: 16, 6, 2 and 1 bits.
+#[tactic(auto, unfolding(answers::specs::Proper::proper_fields))]
 fn has_widths(t: Translation) -> bool
     ensures { result ≡ proper_fields t }
 {
@@ -23,31 +24,32 @@ fn has_widths(t: Translation) -> bool
 }
 
 // One of the rules' event numbers, of those without an address.
+#[tactic(auto, unfolding(answers::specs::Proper::listed_event))]
 fn is_event(event: u64) -> bool
     ensures { result ≡ listed_event event }
 {
-    match event {
-        answers::C_BAD_STREAMID => true,
-        answers::C_BAD_STE => true,
-        answers::F_STREAM_DISABLED => true,
-        answers::C_BAD_SUBSTREAMID => true,
-        answers::C_BAD_CD => true,
-        _ => false,
-    }
+    matches!(
+        event,
+        answers::C_BAD_STREAMID
+            | answers::C_BAD_STE
+            | answers::F_STREAM_DISABLED
+            | answers::C_BAD_SUBSTREAMID
+            | answers::C_BAD_CD
+    )
 }
 
 // One of the rules' unserved cases.
+#[tactic(auto, unfolding(answers::specs::Proper::listed_case))]
 fn is_case(case: u64) -> bool
     ensures { result ≡ listed_case case }
 {
-    match case {
-        answers::STAGE_2 => true,
-        answers::VMSA_32 => true,
-        answers::STREAM_WORLD => true,
-        _ => false,
-    }
+    matches!(
+        case,
+        answers::STAGE_2 | answers::VMSA_32 | answers::STREAM_WORLD
+    )
 }
 
+#[tactic(auto, unfolding(answers::specs::Proper::proper_outcome))]
 pub fn is_outcome(outcome: Outcome) -> bool
     ensures { result ≡ proper_outcome outcome }
 {
@@ -82,14 +84,6 @@ pub fn is_list(list: Pieces) -> bool
     if answers::PIECES_MOST < count {
         return false;
     }
-    let pieces = list.piece;
-    let mut i: usize = 0;
-    while i < count {
-        let piece = pieces[i];
-        if !ends_below(piece) {
-            return false;
-        }
-        i = i + 1;
-    }
-    true
+    let counted = &list.piece[..count];
+    counted.iter().all(|piece| ends_below(*piece))
 }

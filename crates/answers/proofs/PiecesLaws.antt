@@ -1,5 +1,5 @@
 -- The list as a count and an array, and in an answer's words: for any most of pieces.
---     push_room, push_full        one piece more in an answer's words, where there is room and where there is none
+--     push_room                   one piece more in an answer's words, where there is room
 --     pieces_none                 no piece
 --     pieces_length               the array has room for the most
 --     each_pieces, pieces_each    what holds of each piece, of a list and of its count and array
@@ -11,7 +11,7 @@ use native.Mathlib.Nat.{add-zero, zero-add}
 use native.Mathlib.Omega.{arith}
 use mathlib.Core.Path.{◌≡◌, refl, sym, ap, ◌∙◌}
 use mathlib.Core.List.{List, [], ◌∷◌, ◌++◌, append_assoc}
-use borrow.Author.Tests.{lt-ltb, le-ltb}
+use borrow.Author.Tests.{lt-ltb}
 use lib.ListN.{length, get_or, set, replicate, length-append}
 use lib.Seq.{get_or-append-add}
 use Rattle.memory_image.specs.Rule.{Each}
@@ -26,10 +26,6 @@ module _ (ws : List ℕ) {n : ℕ} (is : n ≡ get_or ws count_at 0) (address si
       ≡ push_piece ws (record { address = address; length = size })
   unfolding push_piece
   push_room room = rw is (simp (lt-ltb (get_or ws count_at 0) pieces_most (rw is at room)))
-
-  pub push_full : pieces_most ≤ n → ws ≡ push_piece ws (record { address = address; length = size })
-  unfolding push_piece
-  push_full full = simp (le-ltb (get_or ws count_at 0) pieces_most (rw is at full))
 
 -- the array
 padded_length : (m : ℕ) (l : List Piece) → length (padded m l) ≡ m

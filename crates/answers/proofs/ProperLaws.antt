@@ -1,9 +1,11 @@
 -- What a proper outcome and a proper list have, and what makes them so.
+--     EndsProper                 of a stage: where it ends the lookup, it ends it with a proper outcome
 --     fields_proper              a translation whose fields have their widths
 --     listed_no_fetch            an event without an address is none of the two that have one
 --     few_proper                 a proper list has at most as many pieces as a list has
 --     proper_pieces_lem          a list that has no more, each of which ends at or below 2^52, is proper
 -- Assumes: nothing.
+use Rattle.std.specs.Prelude.{Err, Ok, Result}
 use Prim.Native.Nat.{ℕ, ◌+◌, ◌^◌, ◌≤◌, ◌<◌}
 use native.Mathlib.Omega.{arith}
 use mathlib.Core.Path.{◌≡◌, refl}
@@ -17,9 +19,14 @@ use Rattle.memory_image.specs.Extent.{address_top}
 use Rattle.answers.specs.Layout.{pieces_most}
 use Rattle.answers.specs.Pieces.{EachPiece}
 use Rattle.answers.specs.Outcome.{f_ste_fetch, f_cd_fetch, fetch_event}
-use Rattle.answers.specs.Proper.{proper_fields, listed_event, proper_pieces, ends_below_at}
+use Rattle.answers.specs.Proper.{proper_fields, listed_event, proper_outcome, proper_pieces, ends_below_at}
+use Rattle.answers.specs.declared.Outcome.{Outcome}
 use Rattle.answers.specs.declared.Pieces.{Pieces}
 use Rattle.answers.specs.declared.Translation.{Translation}
+
+abbrev pub EndsProper : Result ℕ Outcome → Type 0
+EndsProper (Ok x) = Unit {0}
+EndsProper (Err outcome) = proper_outcome outcome ≡ true
 
 pub fields_proper :
     (t : Translation) → t.asid < 2 ^ 16 → t.t0sz < 2 ^ 6 → t.tg0 < 2 ^ 2 → t.epd0 < 2 ^ 1 → proper_fields t ≡ true

@@ -1,8 +1,7 @@
 -- A rule run with its list in an answer's words, for every rule.
 --     walk_done               a rule that is done leaves the words
---     walk_fault, walk_read   a fetch by what `memory_image::fetch` answered: it failed, and that ends the rule by the address that was
---                             wanted; it was had, and the list has one piece more
---     read_one, read_all      the same for a descriptor whose first word ends the rule; for one of eight words
+--     walk_fault              a descriptor that could not be fetched ends the rule, by the address that was wanted
+--     read_one, read_all      one that was read is listed, and the rule goes on with its words: its first word ends the rule; all of eight
 --     walk_then               one rule and then another
 --     walk_run                from no list on, the words have the list that `run` gives
 -- Assumes: nothing.
@@ -13,7 +12,8 @@ use mathlib.Core.Path.{◌≡◌, refl, sym, ap, ◌∙◌}
 use mathlib.Core.Bool.{Bool, true, false}
 use mathlib.Core.List.{List, [], ◌∷◌, ◌++◌, append_assoc, append-nil}
 use lib.ListN.{length, replicate, length-append}
-use Rattle.memory_image.specs.Extent.{Extent, extent_of, end_of, fetched, fetch_rule, wanted}
+use Rattle.memory_image.specs.Extent.{extent_of, end_of, fetched, fetch_rule, wanted}
+use Rattle.memory_image.specs.declared.Extent.{Extent}
 use Rattle.memory_image.specs.Words.{bytes, word_of}
 use Rattle.memory_image.specs.Rule.{Rule, done, fetch, Ran, descriptor, words_at, run, and_then}
 use Rattle.memory_image.specs.declared.Piece.{Piece}
@@ -25,7 +25,7 @@ use Rattle.memory_image.proofs.Claims.{fault_not_listed, fetched_is_listed}
 use Rattle.memory_image.proofs.RunLaws.{run_done}
 use Rattle.answers.specs.Layout.{pieces_most, answer_words}
 use Rattle.answers.specs.Pieces.{pieces_of, only_list, push_piece}
-use Rattle.answers.specs.Walk.{RanIn, run_in, walked, Walks}
+use Rattle.answers.specs.Walk.{RanIn, run_in, walked, Walks, read_put, Reads}
 use Rattle.answers.proofs.PiecesLaws.{only_none, only_more}
 
 -- a step of a run
@@ -109,6 +109,17 @@ module _ {A : Type 0} (e : Extent) (limit : ℕ) (f : ℕ → ℕ) where
           rw (in_fault e limit f address n fault rest (only_list (pieces_of l)) test, fault_not_listed A e limit f address n fault rest test)
           (out (rw (fault_not_listed A e limit f address n fault rest test) at room))
 
+-- a descriptor that was read lies at a place, and is listed
+record Had (base : ℕ) (memory : List ℕ) (address n : ℕ) (ws : List ℕ) (place : ℕ) (longer : List ℕ) : Type 0 where
+  at : At place ≡ fetch_rule (extent_of base memory) (end_of (extent_of base memory)) address (8 * n)
+  pushed : longer ≡ push_piece ws (record { address = address; length = 8 * n })
+
+had :
+    (base : ℕ) (memory : List ℕ) (address n : ℕ) {ws : List ℕ} {said : Fetched} {longer : List ℕ}
+    → Reads base memory address (8 * n) ws said longer → {place : ℕ} → said ≡ At place → Had base memory address n ws place longer
+unfolding read_put
+had base memory address n reads is = record { at = rw (← is) reads.result; pushed = reads.words ∙ rw is }
+
 -- the same of a function that walks
 module _ (base : ℕ) (memory : List ℕ) {A : Type 0} where
   -- two rules of which one goes on as the other
@@ -129,48 +140,50 @@ module _ (base : ℕ) (memory : List ℕ) {A : Type 0} where
         words = ap (λ (ran : RanIn A). ran.words) (sym ends);
       }
 
-  module _ (address n : ℕ) {said : Fetched}
-      (is : said ≡ fetch_rule (extent_of base memory) (end_of (extent_of base memory)) address (8 * n)) (ws : List ℕ) where
+  module _ (address n : ℕ) {ws : List ℕ} {said : Fetched} {longer : List ℕ} (reads : Reads base memory address (8 * n) ws said longer) where
     -- what fails ends the rule, by the address that was wanted
     pub walk_fault :
         (fault : ℕ → A) (rest : (ℕ → ℕ) → Rule A) {a got : ℕ} → said ≡ Outside a → got ≡ wanted said
-        → Walks base memory (fetch address n (done (fault address)) rest) ws (fault got) ws
+        → Walks base memory (fetch address n (done (fault address)) rest) ws (fault got) longer
+    unfolding read_put
     walk_fault fault rest out told =
-        goes_on
+        rw (reads.words, out)
+        (goes_on
         (in_fault (extent_of base memory) (end_of (extent_of base memory)) (bytes memory) address n (done (fault address)) rest ws
-        (outside (extent_of base memory) (end_of (extent_of base memory)) address (8 * n) is out))
-        (walk_done (ap fault (wanted_is (extent_of base memory) (end_of (extent_of base memory)) address (8 * n) is out told)) ws)
+        (outside (extent_of base memory) (end_of (extent_of base memory)) address (8 * n) reads.result out))
+        (walk_done (ap fault (wanted_is (extent_of base memory) (end_of (extent_of base memory)) address (8 * n) reads.result out told)) ws))
 
-    module _ (fault : Rule A) (rest : (ℕ → ℕ) → Rule A) {r : A} {after : List ℕ} where
-      pub walk_read :
-          {place : ℕ} → said ≡ At place → {longer : List ℕ} → longer ≡ push_piece ws (record { address = address; length = 8 * n })
-          → Walks base memory (rest (words_at (bytes memory) (address - base) n)) longer r after
+    -- what is had is listed, and the rule goes on with its words
+    module _ (fault : Rule A) (rest : (ℕ → ℕ) → Rule A) {place : ℕ} (at : said ≡ At place) where
+      walk_read :
+          {r : A} {after : List ℕ} → Walks base memory (rest (words_at (bytes memory) (address - base) n)) longer r after
           → Walks base memory (fetch address n fault rest) ws r after
-      walk_read had push walk =
+      walk_read walk =
           goes_on
           (in_had (extent_of base memory) (end_of (extent_of base memory)) (bytes memory) address n fault rest ws
-          (had_at base memory (end_of (extent_of base memory)) address n is had).test) (rw push at walk)
+          (had_at base memory (end_of (extent_of base memory)) address n (had base memory address n reads at).at refl).test)
+          (rw (had base memory address n reads at).pushed at walk)
 
     -- a descriptor of one word, which ends the rule
-    module _ (fault : A) (next : ℕ → A) where
+    module _ (fault : Rule A) (next : ℕ → A) where
       pub read_one :
-          0 < n → {place word : ℕ} → said ≡ At place → word ≡ word_of memory place 0
-          → {longer : List ℕ} → longer ≡ push_piece ws (record { address = address; length = 8 * n }) → {r : A} → r ≡ next word
-          → Walks base memory (fetch address n (done fault) (λ w. done (next (w 0)))) ws r longer
-      read_one some had read {longer} push says =
-          walk_read (done fault) (λ w. done (next (w 0))) had push
+          0 < n → {place word : ℕ} → said ≡ At place → word ≡ word_of memory place 0 → {r : A} → r ≡ next word
+          → Walks base memory (fetch address n fault (λ w. done (next (w 0)))) ws r longer
+      read_one some at read says =
+          walk_read fault (λ w. done (next (w 0))) at
           (walk_done
-          (says ∙ ap next (read ∙ read_word base memory (end_of (extent_of base memory)) address n is had 0 some (omega arith))) longer)
+          (says
+          ∙ ap next (read ∙ read_word base memory (end_of (extent_of base memory)) address n (had base memory address n reads at).at refl 0 some (omega arith)))
+          longer)
 
   -- a descriptor of eight words, read at its place
   pub read_all :
-      (address : ℕ) {said : Fetched}
-      → said ≡ fetch_rule (extent_of base memory) (end_of (extent_of base memory)) address 64 → (ws : List ℕ) (fault : Rule A)
-      (rest : (ℕ → ℕ) → Rule A) {place : ℕ} → said ≡ At place → {longer : List ℕ}
-      → longer ≡ push_piece ws (record { address = address; length = 64 }) → {r : A} {after : List ℕ}
+      (address : ℕ) {ws : List ℕ} {said : Fetched} {longer : List ℕ} → Reads base memory address 64 ws said longer → (fault : Rule A)
+      (rest : (ℕ → ℕ) → Rule A) {place : ℕ} → said ≡ At place → {r : A} {after : List ℕ}
       → Walks base memory (rest (word_of memory place)) longer r after → Walks base memory (fetch address 8 fault rest) ws r after
-  read_all address is ws fault rest had push walk =
-      walk_read address 8 is ws fault rest had push (rw (read_words base memory (end_of (extent_of base memory)) address is had) at walk)
+  read_all address reads fault rest at walk =
+      walk_read address 8 reads fault rest at
+      (rw (read_words base memory (end_of (extent_of base memory)) address (had base memory address 8 reads at).at refl) at walk)
 
   pub walk_run :
       (t : Rule A) {r : A} {after : List ℕ} → Walks base memory t (replicate answer_words 0) r after

@@ -1,16 +1,21 @@
-// What a lookup answers, and the list of the descriptors that it read. Start at `Outcome`.
-// Meets specs/Outcome.antt, which has the rules' numbers, and specs/Pieces.antt; where the words of an answer stand is
-// in specs/Layout.antt too.
+// What a lookup answers, and the list of the descriptors that are read; why a call says no is in refusals.rt. Start at
+// `Outcome`. Meets specs/Outcome.antt, which has the rules' numbers, and specs/Pieces.antt; `read` meets `Reads` of
+// specs/Walk.antt. Where the words of an answer stand is in specs/Layout.antt too.
 #![tactic(auto)]
 
 ghost use Rattle.std.specs.Prelude.{◌≡◌};
 ghost use Rattle.answers.specs.Outcome.{fetch_event, recorded};
 ghost use Rattle.answers.specs.Pieces.{none, push_piece};
+ghost use Rattle.answers.specs.Walk.{Reads};
 
-use memory_image::Piece;
+use memory_image::{Fetched, Memory, Piece};
+pub use refusals::Refusal;
 use registers::Registers;
 
-// The events, by the standard's names.
+mod refusals;
+
+// The events, by the standard's names. They are numbers, not an enum: `answer_words::outcome_of` says what any words stand
+// for, whatever number is there, the claims speak of any event, and C asks `is_recorded` of any number.
 pub const C_BAD_STREAMID: u64 = 0x02;
 
 pub const F_STE_FETCH: u64 = 0x03;
@@ -25,7 +30,7 @@ pub const F_CD_FETCH: u64 = 0x09;
 
 pub const C_BAD_CD: u64 = 0x0A;
 
-// What is not served: stage 2, VMSAv8-32, StreamWorlds above EL1.
+// What is not served, by numbers as any words may hold: stage 2, VMSAv8-32, StreamWorlds above EL1.
 pub const STAGE_2: u64 = 20;
 
 pub const VMSA_32: u64 = 21;
@@ -63,6 +68,7 @@ pub enum Outcome {
 }
 
 // Whether an abort's event is recorded: 0x02 only if CR2.RECINVSID is 1.
+#[tactic(auto, unfolding(crate::specs::Outcome::recorded))]
 pub fn is_recorded(registers: Registers, event: u64) -> bool
     ensures { result ≡ recorded registers event }
 {
@@ -73,13 +79,11 @@ pub fn is_recorded(registers: Registers, event: u64) -> bool
 }
 
 // Whether an event is that of a fetch that fails: it comes with the address that was wanted, and no other does.
+#[tactic(auto, unfolding(crate::specs::Outcome::fetch_event))]
 pub fn is_fetch(event: u64) -> bool
     ensures { result ≡ fetch_event event }
 {
-    if event == F_STE_FETCH {
-        return true;
-    }
-    event == F_CD_FETCH
+    matches!(event, F_STE_FETCH | F_CD_FETCH)
 }
 
 // As many values as the longest outcome has.
@@ -103,7 +107,8 @@ pub const LIST_WORDS: usize = 1 + 2 * PIECES_MOST;
 pub const ANSWER_WORDS: usize = COUNT_AT + LIST_WORDS;
 
 // The descriptors read, in order: the first `count` of the array. Zeros follow them, but in a list of words that
-// something else wrote: whoever reads a list goes by its count.
+// something else wrote: whoever reads a list goes by its count. There is no allocator in the box, so it is an array and a
+// count, and not a `Vec`.
 #[derive(Clone, Copy)]
 pub struct Pieces {
     pub count: u64,
@@ -111,6 +116,7 @@ pub struct Pieces {
 }
 
 impl Pieces {
+    #[tactic(auto, unfolding(crate::specs::Pieces::none))]
     pub fn none() -> Self
         ensures { result ≡ none }
     {
@@ -124,6 +130,7 @@ impl Pieces {
 }
 
 // One piece more on the list in an answer's words, or none where it is full.
+#[tactic(auto, unfolding(crate::specs::Pieces::push_piece))]
 pub fn push_piece(words: &mut [u64; ANSWER_WORDS], address: u64, length: u64)
     ensures { words.new ≡ push_piece words.old (record { address = address; length = length }) }
 {
@@ -135,4 +142,16 @@ pub fn push_piece(words: &mut [u64; ANSWER_WORDS], address: u64, length: u64)
         words[next] = length;
         words[COUNT_AT] = n as u64 + 1;
     }
+}
+
+// Fetches a descriptor of so many bytes at an address; where it is had, the list in an answer's words has one piece more.
+#[inline(always)]
+pub fn read(memory: Memory, address: u64, size: u64, words: &mut [u64; ANSWER_WORDS]) -> Fetched
+    ensures { Reads memory.entry.base memory.entry.bytes.now address size words.old result words.new }
+{
+    let fetched = memory.fetch(address, size);
+    if let Fetched::At(_) = fetched {
+        push_piece(words, address, size);
+    }
+    fetched
 }

@@ -5,7 +5,6 @@
 --     power_is, power_some, low_by  2^k so held is a divisor, and leaves the k low bits
 --     low_small                   the low bits are below 2^k
 --     high_by                     what a shift leaves
---     field_by                    a field is the low bits of what is above its lowest
 --     in_bits_high, in_bits_by    a number is below 2^k exactly if it has no bit from k on
 -- Assumes: nothing.
 use Prim.Native.Nat.{ℕ, ◌+◌, ◌-◌, ◌*◌, ◌/◌, ◌%◌, ◌^◌, ◌≤◌, ◌<◌}
@@ -16,7 +15,7 @@ use mathlib.Core.Bool.{Bool, true, false}
 use borrow.Author.Tests.{eq-eqb, ne_eqb, ltb-true, ltb-false}
 use lib.Dec.{eqb, ltb}
 use lib.Pow.{pow_pos, pow_mono, pow-lt, pow-add}
-use Rattle.bit_fields.specs.Bits.{PartOf, low, high, field, in_bits}
+use Rattle.bit_fields.specs.Bits.{PartOf, low, high, in_bits}
 
 -- what is left of a word when bits are taken away is no more than the word
 module _ (x k : ℕ) {r : ℕ} where
@@ -74,6 +73,3 @@ module _ (x k : ℕ) where
 
   pub in_bits_by : {r : ℕ} → r ≡ high x k → eqb r 0 ≡ in_bits x k
   in_bits_by is = rw is in_bits_high
-
-pub field_by : (x lowest width : ℕ) {above r : ℕ} → above ≡ high x lowest → r ≡ low above width → r ≡ field x lowest width
-field_by x lowest width up is = rw (is, up)

@@ -1,29 +1,17 @@
--- Which way a choice by a test of two numbers goes: one law for each test and each way, for values of any type.
---     if_lt, if_not_lt, if_le, if_not_le, if_eq, if_not_eq
+-- Which way a choice by a test of two numbers goes, for values of any type.
+--     if_eq, if_not_eq    by whether two numbers are equal
 --     either      what holds of both ways of a choice holds of the choice
 --     by_test     the same, where each way may count on what the test said
 --     alike       the same of two choices by one test
 -- Assumes: nothing.
-use Prim.Native.Nat.{ℕ, ◌≤◌, ◌<◌}
+use Prim.Native.Nat.{ℕ}
 use mathlib.Core.Path.{◌≡◌, refl}
 use mathlib.Core.Bool.{Bool, true, false}
-use borrow.Author.Tests.{lt-ltb, le-ltb, le-leb, lt-leb, eq-eqb, ne_eqb}
-use lib.Dec.{eqb, leb, ltb}
+use borrow.Author.Tests.{eq-eqb, ne_eqb}
+use lib.Dec.{eqb}
 use Rattle.std.specs.Prelude.{if◌then◌else◌}
 
 module _ {A : Type 0} (first second : A) (a b : ℕ) where
-  pub if_lt : a < b → first ≡ (if ltb a b then first else second)
-  if_lt is = simp (lt-ltb _ _ is)
-
-  pub if_not_lt : b ≤ a → second ≡ (if ltb a b then first else second)
-  if_not_lt is = simp (le-ltb _ _ is)
-
-  pub if_le : a ≤ b → first ≡ (if leb a b then first else second)
-  if_le is = simp (le-leb _ _ is)
-
-  pub if_not_le : b < a → second ≡ (if leb a b then first else second)
-  if_not_le is = simp (lt-leb _ _ is)
-
   pub if_eq : a ≡ b → first ≡ (if eqb a b then first else second)
   if_eq is = simp (eq-eqb _ _ is)
 

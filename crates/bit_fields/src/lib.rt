@@ -1,9 +1,9 @@
-// Bits of numbers: a field of a word, powers of two, aligning down; and small steps that rules take.
+// Bits of numbers: a field of a word, powers of two, aligning down; and the "and" of two tests.
 // Start at `field`.
 // Meets specs/Bits.antt, for every number of bits: nothing has to be checked first.
 #![tactic(auto)]
 
-ghost use Rattle.std.specs.Prelude.{◌≡◌, ◌&&◌, ◌-◌, min, max};
+ghost use Rattle.std.specs.Prelude.{◌≡◌, ◌&&◌};
 ghost use Rattle.bit_fields.specs.Bits.{PartOf, aligned_down, field, high, in_bits, low, power};
 
 // 2^k, and 0 from 64 on, where 64 bits cannot hold it.
@@ -43,32 +43,15 @@ pub fn aligned_down(x: u64, k: u64) -> u64
 }
 
 // Whether x is below 2^k.
+#[tactic(auto, using(crate::proofs::BitsLaws::in_bits_by))]
 pub fn in_bits(x: u64, k: u64) -> bool
     ensures { result ≡ in_bits x k }
 {
     high(x, k) == 0
 }
 
-pub fn smaller(a: u64, b: u64) -> u64
-    ensures { result ≡ min a b }
-{
-    if a < b { a } else { b }
-}
-
-pub fn larger(a: u64, b: u64) -> u64
-    ensures { result ≡ max a b }
-{
-    if a < b { b } else { a }
-}
-
-// a - b, and 0 where b is larger.
-pub fn minus(a: u64, b: u64) -> u64
-    ensures { result ≡ a - b }
-{
-    if b < a { a - b } else { 0 }
-}
-
-// Whether both tests hold.
+// Whether both tests hold. It is `&&` as a function: after an `&&` the two ways join, and what is proved there would be told by the
+// prover's own names for them.
 pub fn both(a: bool, b: bool) -> bool
     ensures { result ≡ (a && b) }
 {

@@ -5,10 +5,11 @@
 --     strike_hit, strike_miss          a slot struck, and one left
 --     notice_malformed, notice_start, notice_end, notice_done
 -- Assumes: nothing.
+use Rattle.answers.specs.declared.refusals.Refusal.TheVariants as refusal
 use Prim.Native.Nat.{ℕ, ◌+◌, ◌-◌, ◌≤◌, ◌<◌, min, max, zero, suc}
 use native.Mathlib.Omega.{arith}
 use Rattle.number_laws.proofs.Tests.{not_both}
-use Rattle.std.specs.Prelude.{if◌then◌else◌}
+use Rattle.std.specs.Prelude.{if◌then◌else◌, Err, Ok}
 use Rattle.answers.specs.Pieces.{nothing}
 use mathlib.Core.Path.{◌≡◌, refl, sym, ◌∙◌}
 use mathlib.Core.Bool.{Bool, true, false, ◌&&◌}
@@ -24,7 +25,6 @@ use Rattle.answer_words.specs.AnswerWords.{list_of}
 use Rattle.book_words.specs.Layout.{slots_most, keys_from, key_at, block_at}
 use Rattle.book_words.specs.Malformed.{refusal7}
 use Rattle.book.specs.Book.{shares, shared_from, touched, strike, struck_from, notice_says, Noticed}
-use Rattle.book.specs.declared.Said.TheVariants as said
 
 -- two tests at once, where their meeting says the same
 meets :
@@ -98,25 +98,25 @@ module _ (ws : List ℕ) (start size i : ℕ) where
     strike_miss so = simp (← is, so)
 
 module _ (ws : List ℕ) (start size : ℕ) {bad : Bool} (is_bad : bad ≡ refusal7 ws) where
-  pub notice_malformed : bad ≡ true → Noticed ws start size (said.Refused 7) ws
+  pub notice_malformed : bad ≡ true → Noticed ws start size (Err refusal.Malformed) ws
   unfolding notice_says
   notice_malformed so = record { result = simp (← is_bad, so); book = simp (← is_bad, so) }
 
   module _ (good : bad ≡ false) where
-    past : address_top < start + size → Noticed ws start size (said.Refused 5) ws
+    past : address_top < start + size → Noticed ws start size (Err refusal.Notice) ws
     unfolding notice_says
     past is = record { result = simp (← is_bad, good, lt-ltb _ _ is); book = simp (← is_bad, good, lt-ltb _ _ is) }
 
-    pub notice_start : address_top < start → Noticed ws start size (said.Refused 5) ws
+    pub notice_start : address_top < start → Noticed ws start size (Err refusal.Notice) ws
     notice_start is = past (omega arith)
 
     module _ (low : start ≤ address_top) where
-      pub notice_end : address_top - start < size → Noticed ws start size (said.Refused 5) ws
+      pub notice_end : address_top - start < size → Noticed ws start size (Err refusal.Notice) ws
       notice_end is = past (omega arith)
 
       pub notice_done :
           size ≤ address_top - start → {after : List ℕ} → after ≡ struck_from ws start size slots_most 0
-          → Noticed ws start size said.Done after
+          → Noticed ws start size (Ok tt) after
       unfolding notice_says
       notice_done fits is =
           let ends : start + size ≤ address_top = omega arith in

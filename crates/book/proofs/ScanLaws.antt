@@ -1,14 +1,17 @@
 -- One step of each scan that is defined by what is left, under the test that the code makes.
---     shared_end, shared_step          the pieces of a list
---     any_none, any_found, any_more    the loop over the pieces
+--     any_counted                      the search of a list's pieces
 --     struck_end, struck_step          the slots that a notice strikes
 --     all_struck, more_struck          the loop over them
 -- Assumes: nothing.
-use Prim.Native.Nat.{ℕ, ◌+◌, ◌-◌, ◌≤◌, ◌<◌, min}
-use mathlib.Core.Path.{◌≡◌, sym, ◌∙◌}
-use mathlib.Core.Bool.{Bool, true, false}
+use Prim.Native.Nat.{ℕ, zero, suc, ◌+◌, ◌-◌, ◌≤◌, ◌<◌, min}
+use native.Mathlib.Omega.{arith}
+use native.Mathlib.Nat.{min-le_right}
+use mathlib.Core.Path.{◌≡◌, refl, sym, ◌∙◌}
+use mathlib.Core.Bool.{Bool, true, false, ◌||◌}
 use mathlib.Core.List.{List}
-use lib.ListN.{get_or}
+use lib.ListN.{length, get_or, take, drop}
+use lib.Seq.{drop-cons}
+use Rattle.std.specs.List.{list_any}
 use Rattle.number_laws.proofs.Scans.{left_none, left_one}
 use Rattle.std.specs.Prelude.{if◌then◌else◌}
 use Rattle.memory_image.specs.declared.Piece.{Piece}
@@ -17,29 +20,31 @@ use Rattle.answers.specs.Pieces.{nothing}
 use Rattle.book_words.specs.Layout.{slots_most}
 use Rattle.book.specs.Book.{shares, shared_from, strike, struck_from}
 
-module _ (start size : ℕ) (l : List Piece) (n j : ℕ) where
-  pub shared_end : n ≤ j → shared_from start size l (n - j) j ≡ false
+module _ (start size : ℕ) (l : List Piece) where
+  shared_part : (m j : ℕ) → j + m ≤ length l → list_any (shares start size) (take m (drop j l)) ≡ shared_from start size l m j
   unfolding shared_from
-  shared_end past = rw (left_none n j past)
+  shared_part zero j few = refl
+  shared_part (suc m) j few =
+      rw (drop-cons l j nothing (omega arith))
+      (go (shares start size (get_or l j nothing)) (rw (next j) at (shared_part m (j + 1) (omega arith))))
+    where
+      next : (j : ℕ) → j + 1 ≡ suc j
+      next j = omega arith
 
-  pub shared_step :
-      j < n → (b : Bool) → shares start size (get_or l j nothing) ≡ b
-      → shared_from start size l (n - j) j ≡ (if b then true else shared_from start size l (n - (j + 1)) (j + 1))
-  unfolding shared_from
-  shared_step more b is = rw (left_one n j more, is)
+      rest : Bool
+      rest = list_any (shares start size) (take m (drop (suc j) l))
 
--- the loop over the pieces: n of them, j passed
-module _ (start size : ℕ) (l : List Piece) (count : ℕ) {n j : ℕ} (few : n ≡ min count pieces_most)
-    (left : shared_from start size l n 0 ≡ shared_from start size l (n - j) j) where
-  pub any_none : n ≤ j → false ≡ shared_from start size l (min count pieces_most) 0
-  any_none past = rw (← few) (sym (left ∙ shared_end start size l n j past))
+      go : (b : Bool) → rest ≡ shared_from start size l m (suc j) → (b || rest) ≡ (if b then true else shared_from start size l m (j + 1))
+      go true same = refl
+      go false same = rw (next j) same
 
-  module _ (more : j < n) {r : Bool} (is : r ≡ shares start size (get_or l j nothing)) where
-    pub any_found : r ≡ true → true ≡ shared_from start size l (min count pieces_most) 0
-    any_found so = rw (← few) (sym (left ∙ shared_step start size l n j more true (sym is ∙ so)))
-
-    pub any_more : r ≡ false → shared_from start size l n 0 ≡ shared_from start size l (n - (j + 1)) (j + 1)
-    any_more so = left ∙ shared_step start size l n j more false (sym is ∙ so)
+  -- a search of those that are counted
+  pub any_counted :
+      (count : ℕ) → length l ≡ pieces_most → {n : ℕ} → n ≡ min count pieces_most → {found : Bool}
+      → found ≡ list_any (shares start size) (take n l) → found ≡ shared_from start size l (min count pieces_most) 0
+  any_counted count full {n} few is =
+      let least : n ≤ pieces_most = omega (arith, few, min-le_right count pieces_most) in
+      rw (← few) (is ∙ shared_part n 0 (omega arith))
 
 module _ (ws : List ℕ) (start size n i : ℕ) where
   pub struck_end : n ≤ i → struck_from ws start size (n - i) i ≡ ws

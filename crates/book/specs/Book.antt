@@ -4,12 +4,16 @@
 --     shares, touched, struck_from  a notice: which slots it strikes
 -- A refused call leaves every word.
 -- Assumes: nothing.
-use Rattle.std.specs.Prelude.{ℕ, zero, suc, ◌+◌, min, max, ◌≡◌, Bool, true, false, not, ◌&&◌, ◌||◌, List, eqb, ltb, get_or, length, set, if◌then◌else◌}
+use Rattle.answers.specs.declared.refusals.Refusal.TheVariants as refusal
+use Rattle.std.specs.Prelude.{ℕ, zero, suc, ◌+◌, min, max, ◌≡◌, Bool, true, false, not, ◌&&◌, ◌||◌, List, eqb, ltb, get_or, length, set, if◌then◌else◌, Err, Ok, Result, ⊤}
+use Rattle.answers.specs.declared.refusals.Refusal.{Refusal}
+use Rattle.answers.specs.declared.Outcome.{Outcome}
 use Rattle.ids.specs.Ids.{refusal3}
 use Rattle.ids.specs.declared.Request.{Request}
 use Rattle.registers.specs.Sizes.{refusal1}
 use Rattle.registers.specs.declared.Registers.{Registers}
-use Rattle.memory_image.specs.Extent.{Extent, refusal2, address_top}
+use Rattle.memory_image.specs.Extent.{refusal2, address_top}
+use Rattle.memory_image.specs.declared.Extent.{Extent}
 use Rattle.memory_image.specs.declared.Piece.{Piece}
 use Rattle.answers.specs.Layout.{pieces_most}
 use Rattle.answers.specs.Pieces.{none, nothing}
@@ -17,29 +21,25 @@ use Rattle.answers.specs.declared.Pieces.{Pieces}
 use Rattle.answer_words.specs.AnswerWords.{words_of, outcome_of, list_of}
 use Rattle.lookup.specs.Lookup.{looked_up}
 use Rattle.lookup.specs.declared.Looked.{Looked}
-use Rattle.lookup.specs.declared.Answer.{Answer}
-use Rattle.lookup.specs.declared.Answer.TheVariants.{Refused, Is}
 use Rattle.book_words.specs.Layout.{slots_most, slots_of, registers_of, other_extent, keys_from, key_at, block_at, key_of, kept_at, opened_with}
 use Rattle.book_words.specs.Malformed.{first_from, refusal7}
 use Rattle.book.specs.declared.Asked.{Asked}
-use Rattle.book.specs.declared.Said.{Said}
-use Rattle.book.specs.declared.Said.TheVariants as said
 use Rattle.book.specs.declared.Reply.TheVariants as reply
 
 -- open: refusals 1, 2, 4
-unfoldable pub open_says : Registers → Extent → ℕ → Said
+unfoldable pub open_says : Registers → Extent → ℕ → Result ⊤ Refusal
 open_says r e slots =
-    if refusal1 r then said.Refused 1
-    else if refusal2 e then said.Refused 2
-    else if eqb slots 0 || ltb slots_most slots then said.Refused 4
-    else said.Done
+    if refusal1 r then Err refusal.Registers
+    else if refusal2 e then Err refusal.Memory
+    else if eqb slots 0 || ltb slots_most slots then Err refusal.Slots
+    else Ok tt
 
 -- a refused call leaves every word
-abbrev pub if_done : Said → List ℕ → List ℕ → List ℕ
-if_done (said.Refused n) before after = before
-if_done said.Done before after = after
+abbrev pub if_done : Result ⊤ Refusal → List ℕ → List ℕ → List ℕ
+if_done (Err n) before after = before
+if_done (Ok done) before after = after
 
-pub record Opened (r : Registers) (e : Extent) (slots : ℕ) (before : List ℕ) (says : Said) (after : List ℕ) : Type 0 where
+pub record Opened (r : Registers) (e : Extent) (slots : ℕ) (before : List ℕ) (says : Result ⊤ Refusal) (after : List ℕ) : Type 0 where
   pub result : says ≡ open_says r e slots
   pub book : after ≡ if_done (open_says r e slots) before (opened_with r e slots)
 
@@ -50,28 +50,28 @@ slot_of ws request = first_from ws (key_of request) (slots_of ws) 0
 abbrev pub empty_slot : List ℕ → ℕ
 empty_slot ws = first_from ws 0 (slots_of ws) 0
 
-abbrev pub refused_with : ℕ → Asked
-refused_with n = record { reply = reply.Refused n; list = none }
+abbrev pub refused_with : Refusal → Asked
+refused_with n = record { reply = Err n; list = none }
 
 -- a new lookup: it is kept where there is room
-abbrev pub newly : Bool → Answer → Pieces → Asked
-newly room (Refused n) list = refused_with n
-newly true (Is outcome) list = record { reply = reply.NewlyKept outcome; list = list }
-newly false (Is outcome) list = record { reply = reply.NotKept outcome; list = list }
+abbrev pub newly : Bool → Result Outcome Refusal → Pieces → Asked
+newly room (Err n) list = refused_with n
+newly true (Ok outcome) list = record { reply = Ok (reply.NewlyKept outcome); list = list }
+newly false (Ok outcome) list = record { reply = Ok (reply.NotKept outcome); list = list }
 
-abbrev pub now_holding : Bool → List ℕ → ℕ → ℕ → Answer → Pieces → List ℕ
-now_holding room ws i key (Refused n) list = ws
-now_holding true ws i key (Is outcome) list = kept_at ws i key (words_of outcome list)
-now_holding false ws i key (Is outcome) list = ws
+abbrev pub now_holding : Bool → List ℕ → ℕ → ℕ → Result Outcome Refusal → Pieces → List ℕ
+now_holding room ws i key (Err n) list = ws
+now_holding true ws i key (Ok outcome) list = kept_at ws i key (words_of outcome list)
+now_holding false ws i key (Ok outcome) list = ws
 
 -- ask: refusals 7, 6, 3; from its slot; or by a new lookup, kept in the lowest empty slot or not kept
 unfoldable pub ask_result : List ℕ → ℕ → ℕ → Request → Looked → Asked
 ask_result ws base size request new =
-    if refusal7 ws then refused_with 7
-    else if other_extent ws base size then refused_with 6
-    else if refusal3 request then refused_with 3
+    if refusal7 ws then refused_with refusal.Malformed
+    else if other_extent ws base size then refused_with refusal.OtherMemory
+    else if refusal3 request then refused_with refusal.Substream
     else if ltb (slot_of ws request) (slots_of ws)
-    then record { reply = reply.KeptBefore (outcome_of (block_at ws (slot_of ws request))); list = list_of (block_at ws (slot_of ws request)) }
+    then record { reply = Ok (reply.KeptBefore (outcome_of (block_at ws (slot_of ws request)))); list = list_of (block_at ws (slot_of ws request)) }
     else newly (ltb (empty_slot ws) (slots_of ws)) new.answer new.list
 
 unfoldable pub ask_book : List ℕ → ℕ → ℕ → Request → Looked → List ℕ
@@ -116,12 +116,12 @@ struck_from ws start size zero i = ws
 struck_from ws start size (suc m) i = struck_from (strike ws start size i) start size m (i + 1)
 
 -- notice: refusals 7, 5
-unfoldable pub notice_says : List ℕ → ℕ → ℕ → Said
+unfoldable pub notice_says : List ℕ → ℕ → ℕ → Result ⊤ Refusal
 notice_says ws start size =
-    if refusal7 ws then said.Refused 7
-    else if ltb address_top (start + size) then said.Refused 5
-    else said.Done
+    if refusal7 ws then Err refusal.Malformed
+    else if ltb address_top (start + size) then Err refusal.Notice
+    else Ok tt
 
-pub record Noticed (ws : List ℕ) (start size : ℕ) (says : Said) (after : List ℕ) : Type 0 where
+pub record Noticed (ws : List ℕ) (start size : ℕ) (says : Result ⊤ Refusal) (after : List ℕ) : Type 0 where
   pub result : says ≡ notice_says ws start size
   pub book : after ≡ if_done (notice_says ws start size) ws (struck_from ws start size slots_most 0)

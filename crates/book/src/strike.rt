@@ -9,65 +9,64 @@ use answers::{PIECES_MOST, Pieces};
 use book_words::{BOOK_WORDS, KEYS, SLOTS_MOST};
 use memory_image::Piece;
 
-// Whether a piece and a notice share an address. It computes no sum, so nothing can wrap.
-fn share(start: u64, size: u64, piece: Piece) -> bool
-    ensures { result ≡ shares start size piece }
-{
-    let address = piece.address;
-    let length = piece.length;
-    if start <= address {
-        return bit_fields::both(address - start < size, 0 < length);
-    }
-    bit_fields::both(start - address < length, 0 < size)
+// What a notice says: so many bytes were edited, from a start on. The public call has the two as numbers, as C has them.
+#[derive(Clone, Copy)]
+pub struct Edited {
+    pub start: u64,
+    pub size: u64,
 }
 
-// Whether one of the counted pieces of a list shares an address with a notice.
-fn any_shares(start: u64, size: u64, list: Pieces) -> bool
-    ensures { result ≡ shared_from start size list.piece (min list.count pieces_most) 0 }
-{
-    let n = bit_fields::smaller(list.count, PIECES_MOST as u64) as usize;
-    let piece = list.piece;
-    let mut j: usize = 0;
-    while j < n {
-        let p = piece[j];
-        if share(start, size, p) {
-            return true;
+impl Edited {
+    // Whether a piece shares an address with it. It computes no sum, so nothing can wrap.
+    #[tactic(auto, using(crate::proofs::NoticeLaws::share_below, crate::proofs::NoticeLaws::share_above))]
+    fn shares(self, piece: Piece) -> bool
+        ensures { result ≡ shares self.start self.size piece }
+    {
+        if self.start <= piece.address {
+            return bit_fields::both(piece.address - self.start < self.size, 0 < piece.length);
         }
-        j += 1;
+        bit_fields::both(self.start - piece.address < piece.length, 0 < self.size)
     }
-    false
+
+    // Whether one of the counted pieces of a list does.
+    fn shares_any(self, list: Pieces) -> bool
+        ensures { result ≡ shared_from self.start self.size list.piece (min list.count pieces_most) 0 }
+    {
+        let n = list.count.min(PIECES_MOST as u64) as usize;
+        let counted = &list.piece[..n];
+        counted.iter().any(|piece| self.shares(*piece))
+    }
 }
 
 // Whether a notice strikes a slot.
-fn touches(book: &[u64; BOOK_WORDS], i: usize, start: u64, size: u64) -> bool
+#[tactic(auto, using(crate::proofs::NoticeLaws::touch_empty, crate::proofs::NoticeLaws::touch_held))]
+fn touches(book: &[u64; BOOK_WORDS], i: usize, edited: Edited) -> bool
     requires { i < slots_most }
-    ensures { result ≡ touched book.now start size i }
+    ensures { result ≡ touched book.now edited.start edited.size i }
 {
     let key = book[KEYS + i];
     if key == 0 {
         return false;
     }
     let block = book_words::block(book, i);
-    let list = answer_words::list_of(&block);
-    any_shares(start, size, list)
+    edited.shares_any(answer_words::list_of(&block))
 }
 
-fn strike_slot(book: &mut [u64; BOOK_WORDS], i: usize, start: u64, size: u64)
+#[tactic(auto, using(crate::proofs::NoticeLaws::strike_hit, crate::proofs::NoticeLaws::strike_miss))]
+fn strike_slot(book: &mut [u64; BOOK_WORDS], i: usize, edited: Edited)
     requires { i < slots_most }
-    ensures { book.new ≡ strike book.old start size i }
+    ensures { book.new ≡ strike book.old edited.start edited.size i }
 {
-    if touches(&*book, i, start, size) {
+    if touches(&*book, i, edited) {
         book[KEYS + i] = 0;
     }
 }
 
 // Strikes every slot that a notice touches.
-pub fn strike_all(book: &mut [u64; BOOK_WORDS], start: u64, size: u64)
-    ensures { book.new ≡ struck_from book.old start size slots_most 0 }
+pub fn strike_all(book: &mut [u64; BOOK_WORDS], edited: Edited)
+    ensures { book.new ≡ struck_from book.old edited.start edited.size slots_most 0 }
 {
-    let mut i: usize = 0;
-    while i < SLOTS_MOST {
-        strike_slot(&mut *book, i, start, size);
-        i += 1;
+    for i in 0..SLOTS_MOST {
+        strike_slot(book, i, edited);
     }
 }

@@ -6,6 +6,8 @@
 --     new_in_lowest, kept_from_its_slot
 -- Assumes: nothing.
 use Prim.Native.Nat.{ℕ, ◌+◌, ◌≤◌, ◌<◌, ◌-◌}
+use Rattle.answers.specs.declared.refusals.Refusal.TheVariants as refusal
+use Rattle.answers.specs.declared.refusals.Refusal.{Refusal}
 use native.Mathlib.Omega.{arith}
 use mathlib.Core.Path.{◌≡◌, refl, sym, ap, ◌∙◌}
 use mathlib.Core.Bool.{Bool, true, false}
@@ -15,7 +17,7 @@ use borrow.Author.Tests.{lt-ltb, ltb-true, ltb-false}
 use lib.Dec.{ltb}
 use lib.ListN.{length, get_or, set}
 use lib.Seq.{get_or-set_other}
-use Rattle.std.specs.Prelude.{if◌then◌else◌}
+use Rattle.std.specs.Prelude.{if◌then◌else◌, Ok, Err}
 use Rattle.number_laws.proofs.Tests.{not_both}
 use Rattle.bit_fields.proofs.ChoiceLaws.{by_test, either}
 use Rattle.ids.specs.Ids.{refusal3}
@@ -28,7 +30,6 @@ use Rattle.answers.specs.declared.Pieces.{Pieces}
 use Rattle.answer_words.specs.AnswerWords.{words_of, outcome_of, list_of}
 use Rattle.answer_words.proofs.AnswerWordsLaws.{words_length}
 use Rattle.lookup.specs.Lookup.{looked_up, answered, ruled}
-use Rattle.lookup.specs.declared.Answer.TheVariants as looked
 use Rattle.lookup_claims.proofs.Claims.{refused_exactly}
 use Rattle.book_words.specs.Layout.{slots_most, book_words, keys_from, slots_of, registers_of, key_at, block_from, block_at, key_of, copied, kept_at, other_extent}
 use Rattle.book_words.specs.Malformed.{refusal7}
@@ -37,7 +38,7 @@ use Rattle.book_words.proofs.WellLaws.{first_key, first_low, held_to, well_to}
 use Rattle.book_words.proofs.WordsLaws.{same_extent}
 use Rattle.book.specs.Book.{refused_with, slot_of, empty_slot, newly, now_holding, ask_result, ask_book, new_lookup, Asks}
 use Rattle.book.specs.declared.Asked.{Asked}
-use Rattle.book.specs.declared.Reply.TheVariants.{Refused, KeptBefore, NewlyKept, NotKept}
+use Rattle.book.specs.declared.Reply.TheVariants.{KeptBefore, NewlyKept, NotKept}
 use Rattle.book_history.specs.Demand3.{Accepted, looked_in, KeptIn, Empty, NewIn, NoRoom, NewInLowest, KeptFromItsSlot}
 
 -- the lookup of an ask that has passed the book's refusals is answered
@@ -57,7 +58,7 @@ module _ (ws : List ℕ) (base : ℕ) (memory : List ℕ) (request : Request) (a
     pub told :
         asked
         ≡ (if ltb (slot_of ws request) (slots_of ws)
-        then record { reply = KeptBefore (outcome_of (block_at ws (slot_of ws request))); list = list_of (block_at ws (slot_of ws request)) }
+        then record { reply = Ok (KeptBefore (outcome_of (block_at ws (slot_of ws request)))); list = list_of (block_at ws (slot_of ws request)) }
         else newly (ltb (empty_slot ws) (slots_of ws)) (new_lookup ws base memory request).answer (new_lookup ws base memory request).list)
     pub left :
         after
@@ -79,14 +80,14 @@ module _ (ws : List ℕ) (base : ℕ) (memory : List ℕ) (request : Request) (a
       Parts : Asked → Type 0
       Parts told = asked ≡ told → Passed
 
-      refused : {n : ℕ} → asked ≡ refused_with n → Passed
+      refused : {n : Refusal} → asked ≡ refused_with n → Passed
       refused {n = n} is = absurd (accepted n (ap (λ (a : Asked). a.reply) is))
 
 -- an ask that is refused: with which number, and why
 pub refused_why :
-    (ws : List ℕ) (base : ℕ) (memory : List ℕ) (request : Request) (asked : Asked) (after : List ℕ) (n : ℕ)
-    → Asks ws base memory request asked after → asked.reply ≡ Refused n
-    → ((n ≡ 7) × (refusal7 ws ≡ true)) ⊎ (((n ≡ 6) × (other_extent ws base (length memory) ≡ true)) ⊎ ((n ≡ 3) × (refusal3 request ≡ true)))
+    (ws : List ℕ) (base : ℕ) (memory : List ℕ) (request : Request) (asked : Asked) (after : List ℕ) (n : Refusal)
+    → Asks ws base memory request asked after → asked.reply ≡ Err n
+    → ((n ≡ refusal.Malformed) × (refusal7 ws ≡ true)) ⊎ (((n ≡ refusal.OtherMemory) × (other_extent ws base (length memory) ≡ true)) ⊎ ((n ≡ refusal.Substream) × (refusal3 request ≡ true)))
 unfolding ask_result
 refused_why ws base memory request asked after n promise is =
     by_test Why (refusal7 ws) (λ bad so. inl (cc, bad))
@@ -98,10 +99,10 @@ refused_why ws base memory request asked after n promise is =
   where
     Why : Asked → Type 0
     Why told =
-        told.reply ≡ Refused n
-        → ((n ≡ 7) × (refusal7 ws ≡ true)) ⊎ (((n ≡ 6) × (other_extent ws base (length memory) ≡ true)) ⊎ ((n ≡ 3) × (refusal3 request ≡ true)))
+        told.reply ≡ Err n
+        → ((n ≡ refusal.Malformed) × (refusal7 ws ≡ true)) ⊎ (((n ≡ refusal.OtherMemory) × (other_extent ws base (length memory) ≡ true)) ⊎ ((n ≡ refusal.Substream) × (refusal3 request ≡ true)))
 
-    anew : (room : Bool) (outcome : Outcome) (list : Pieces) → Why (newly room (looked.Is outcome) list)
+    anew : (room : Bool) (outcome : Outcome) (list : Pieces) → Why (newly room (Ok outcome) list)
     anew true outcome list so = let z : ◌≡◌ {A = ℕ} 0 1 = cc in absurd (omega arith)
     anew false outcome list so = let z : ◌≡◌ {A = ℕ} 0 1 = cc in absurd (omega arith)
 
@@ -111,7 +112,7 @@ pub accepts :
     → other_extent ws base (length memory) ≡ false → refusal3 request ≡ false → Asks ws base memory request asked after → Accepted asked.reply
 accepts ws base memory request asked after well same third promise n is = go (refused_why ws base memory request asked after n promise is)
   where
-    go : ((n ≡ 7) × (refusal7 ws ≡ true)) ⊎ (((n ≡ 6) × (other_extent ws base (length memory) ≡ true)) ⊎ ((n ≡ 3) × (refusal3 request ≡ true))) → ⊥
+    go : ((n ≡ refusal.Malformed) × (refusal7 ws ≡ true)) ⊎ (((n ≡ refusal.OtherMemory) × (other_extent ws base (length memory) ≡ true)) ⊎ ((n ≡ refusal.Substream) × (refusal3 request ≡ true))) → ⊥
     go (inl why) = not_both (sym why.1 ∙ well)
     go (inr (inl why)) = not_both (sym why.1 ∙ same)
     go (inr (inr why)) = not_both (sym why.1 ∙ third)
@@ -179,12 +180,12 @@ module _ (ws : List ℕ) (i key : ℕ) (block : List ℕ) (small : i < slots_mos
 
 -- an answer that isn't kept, with room or without
 module _ (ws : List ℕ) (request : Request) (outcome : Outcome) (l : Pieces) (asked : Asked) (after : List ℕ)
-    (told : asked ≡ newly (ltb (empty_slot ws) (slots_of ws)) (looked.Is outcome) l)
-    (left : after ≡ now_holding (ltb (empty_slot ws) (slots_of ws)) ws (empty_slot ws) (key_of request) (looked.Is outcome) l) where
-  either_way : looked_in asked ≡ record { answer = looked.Is outcome; list = l }
+    (told : asked ≡ newly (ltb (empty_slot ws) (slots_of ws)) (Ok outcome) l)
+    (left : after ≡ now_holding (ltb (empty_slot ws) (slots_of ws)) ws (empty_slot ws) (key_of request) (Ok outcome) l) where
+  either_way : looked_in asked ≡ record { answer = Ok outcome; list = l }
   either_way = go (ltb (empty_slot ws) (slots_of ws)) told
     where
-      go : (room : Bool) → asked ≡ newly room (looked.Is outcome) l → looked_in asked ≡ record { answer = looked.Is outcome; list = l }
+      go : (room : Bool) → asked ≡ newly room (Ok outcome) l → looked_in asked ≡ record { answer = Ok outcome; list = l }
       go true is = ap looked_in is
       go false is = ap looked_in is
 
@@ -193,7 +194,7 @@ module _ (ws : List ℕ) (request : Request) (outcome : Outcome) (l : Pieces) (a
       let below = empty.0 in
       let low : empty_slot ws ≤ i = first_low (slots_of ws) ws 0 0 i empty.1 (omega arith) (omega arith) in
       let inside : empty_slot ws < slots_of ws = omega arith in
-      let there : asked ≡ record { reply = NewlyKept outcome; list = l } = told ∙ simp (lt-ltb _ _ inside) in
+      let there : asked ≡ record { reply = Ok (NewlyKept outcome); list = l } = told ∙ simp (lt-ltb _ _ inside) in
       let kept : after ≡ kept_at ws (empty_slot ws) (key_of request) (words_of outcome l) = left ∙ simp (lt-ltb _ _ inside) in
       record {
         slot = empty_slot ws;
@@ -213,7 +214,7 @@ module _ (ws : List ℕ) (request : Request) (outcome : Outcome) (l : Pieces) (a
   without_room : ((i : ℕ) → Empty ws i → ⊥) → NoRoom ws asked after
   without_room none =
       let out : ltb (empty_slot ws) (slots_of ws) ≡ false = go (ltb (empty_slot ws) (slots_of ws)) refl in
-      let there : asked ≡ record { reply = NotKept outcome; list = l } = told ∙ simp out in
+      let there : asked ≡ record { reply = Ok (NotKept outcome); list = l } = told ∙ simp out in
       record { outcome = outcome; told = ap (λ (a : Asked). a.reply) there; same = left ∙ simp out }
     where
       go : (t : Bool) → ltb (empty_slot ws) (slots_of ws) ≡ t → t ≡ false
@@ -228,8 +229,8 @@ new_in_lowest ws base memory request asked after size promise accepted none =
     let is = looked_is ws base memory request h.well h.same h.third in
     let out = unkept ws request none in
     let ran = ruled (registers_of ws) base memory request in
-    let told : asked ≡ newly (ltb (empty_slot ws) (slots_of ws)) (looked.Is ran.answer) (pieces_of ran.list) = h.told ∙ simp (out, is) in
-    let left : after ≡ now_holding (ltb (empty_slot ws) (slots_of ws)) ws (empty_slot ws) (key_of request) (looked.Is ran.answer) (pieces_of ran.list)
+    let told : asked ≡ newly (ltb (empty_slot ws) (slots_of ws)) (Ok ran.answer) (pieces_of ran.list) = h.told ∙ simp (out, is) in
+    let left : after ≡ now_holding (ltb (empty_slot ws) (slots_of ws)) ws (empty_slot ws) (key_of request) (Ok ran.answer) (pieces_of ran.list)
     = h.left ∙ simp (out, is) in
     record {
       by_lookup = either_way ws request ran.answer (pieces_of ran.list) asked after told left ∙ sym is;

@@ -1,5 +1,6 @@
 -- Demand 2: specs/Demand2.antt, each sentence under its own name, from what is claimed of the lookup.
 -- Assumes: nothing.
+use Rattle.std.specs.Prelude.{Ok}
 use Prim.Native.Nat.{ℕ, ◌+◌, ◌<◌, ◌-◌}
 use native.Mathlib.Omega.{arith}
 use native.Mathlib.Nat.{zero-add}
@@ -12,7 +13,6 @@ use Rattle.registers.specs.Sizes.{refusal1}
 use Rattle.memory_image.specs.Extent.{extent_of, refusal2}
 use Rattle.lookup.specs.Lookup.{looked_up, answered, ruled}
 use Rattle.lookup.specs.declared.Looked.{Looked}
-use Rattle.lookup.specs.declared.Answer.TheVariants.{Is}
 use Rattle.lookup_claims.proofs.Claims.{depends_on_list, listed_lies}
 use Rattle.book_history.specs.Demand2.{AnswerOfTheRules, EachLies, lent, OutsideNeverCounts}
 
@@ -21,7 +21,7 @@ unfolding looked_up
 answer_of_the_rules r base memory request told is outcome answer = is ∙ go (sym (ap (λ (l : Looked). l.answer) is) ∙ answer)
   where
     Ruled : Looked → Type 0
-    Ruled here = here.answer ≡ Is outcome → here ≡ answered (ruled r base memory request)
+    Ruled here = here.answer ≡ Ok outcome → here ≡ answered (ruled r base memory request)
 
     go : Ruled (looked_up r base memory request)
     go =

@@ -3,6 +3,7 @@
 --     strikes_exactly, never_stale
 -- Assumes: nothing.
 use Prim.Native.Nat.{ℕ, zero, suc, ◌+◌, ◌^◌, ◌≤◌, ◌<◌, min, ◌-◌}
+use Rattle.answers.specs.declared.refusals.Refusal.{Refusal}
 use native.Mathlib.Omega.{arith}
 use mathlib.Core.Path.{◌≡◌, refl, sym, ap, ◌∙◌}
 use mathlib.Core.Bool.{Bool, true, false, not}
@@ -11,14 +12,13 @@ use mathlib.Core.Logic.{◌⊎◌, inl, inr}
 use borrow.Author.Tests.{eqb-true, eqb-false, ltb-true, ltb-false, not-true}
 use lib.Dec.{eqb, ltb}
 use lib.ListN.{length, get_or}
-use Rattle.std.specs.Prelude.{if◌then◌else◌}
+use Rattle.std.specs.Prelude.{if◌then◌else◌, Ok, Result, Some, ⊤}
 use Rattle.number_laws.proofs.Tests.{both, not_both}
 use Rattle.bit_fields.proofs.ChoiceLaws.{by_test, either}
 use Rattle.ids.specs.Packing.{packed, unpacked}
 use Rattle.ids.specs.declared.Request.{Request}
-use Rattle.ids.specs.declared.Unpacked.TheVariants.{Is}
 use Rattle.ids.proofs.Claims.{packing_loses_nothing}
-use Rattle.memory_image.specs.Extent.{Extent}
+use Rattle.memory_image.specs.declared.Extent.{Extent}
 use Rattle.memory_image.specs.declared.Piece.{Piece}
 use Rattle.answers.specs.Layout.{pieces_most}
 use Rattle.answers.specs.Pieces.{nothing}
@@ -31,8 +31,6 @@ use Rattle.book_words.proofs.WordsLaws.{same_extent}
 use Rattle.book_words.proofs.WellLaws.{first_key, first_low, held_to, well_to}
 use Rattle.book.specs.Book.{slot_of, shares, shared_from, touched, struck_from, notice_says, Asks}
 use Rattle.book.specs.declared.Asked.{Asked}
-use Rattle.book.specs.declared.Said.{Said}
-use Rattle.book.specs.declared.Said.TheVariants as said
 use Rattle.book.proofs.NoticeLaws.{apart_from, untouched}
 use Rattle.book.proofs.StruckLaws.{struck_length, struck_else, struck_key}
 use Rattle.book_history.specs.History.{State, Begun, edit, handed, differs, handing}
@@ -146,13 +144,13 @@ module _ (ws : List ℕ) (start size : ℕ) (good : refusal7 ws ≡ false) where
           left false e = rw e
 
 -- a notice that isn't refused is one of a book that isn't malformed
-taken : (ws : List ℕ) (start size : ℕ) → said.Done ≡ notice_says ws start size → refusal7 ws ≡ false
+taken : (ws : List ℕ) (start size : ℕ) → (Ok tt) ≡ notice_says ws start size → refusal7 ws ≡ false
 unfolding notice_says
 taken ws start size =
     by_test Good (refusal7 ws) (λ bad is. let z : ◌≡◌ {A = ℕ} 0 1 = cc in absurd (omega arith)) (λ good is. good)
   where
-    Good : Said → Type 0
-    Good says = said.Done ≡ says → refusal7 ws ≡ false
+    Good : Result ⊤ Refusal → Type 0
+    Good says = (Ok tt) ≡ says → refusal7 ws ≡ false
 
 pub strikes_exactly : StrikesExactly
 strikes_exactly ws start size after promise =
@@ -177,7 +175,7 @@ module _ (s : State) (began : Begun s) (base : ℕ) (memory : List ℕ) (request
       let below = kept.below in
       let key = kept.key in
       let back : packed request + 1 - 1 ≡ packed request = omega arith in
-      let is : unpacked (key_at s.words i - 1) ≡ Is request
+      let is : unpacked (key_at s.words i - 1) ≡ Some request
       = rw (key, back) (packing_loses_nothing request (record { stream = narrow; substream = p.third })) in
       let good = still_good (handing s base memory) handed_in i (omega arith) (λ none. omega arith) (λ j counted a from to. clean a) request is in
       ap looked_in (kept_from_its_slot s.words base memory request asked after promise accepted i kept).0

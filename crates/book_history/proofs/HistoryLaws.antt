@@ -6,6 +6,7 @@
 --     begun_sound       it holds after an accepted opening and any history
 -- Assumes: nothing.
 use Prim.Native.Nat.{ℕ, ◌+◌, ◌^◌, ◌≤◌, ◌<◌, min, max, ◌-◌}
+use Rattle.answers.specs.declared.refusals.Refusal.{Refusal}
 use native.Mathlib.Omega.{arith}
 use native.Mathlib.Nat.{zero-add}
 use mathlib.Core.Path.{◌≡◌, refl, sym, ap, ◌∙◌}
@@ -14,18 +15,18 @@ use mathlib.Core.List.{List}
 use borrow.Author.Tests.{ltb-true, ltb-false, eqb-true, eqb-false, leb-true, le-leb, lt-ltb}
 use lib.Dec.{eqb, leb, ltb}
 use lib.ListN.{length, get_or}
-use Rattle.std.specs.Prelude.{if◌then◌else◌}
+use Rattle.std.specs.Prelude.{if◌then◌else◌, Err, Ok, Result, Some, ⊤}
 use Rattle.number_laws.proofs.Tests.{neither}
 use Rattle.bit_fields.proofs.ChoiceLaws.{by_test}
 use Rattle.placed.proofs.FromLaws.{values_length, values_at_lem, values_same, values_list}
 use Rattle.ids.specs.Ids.{refusal3}
 use Rattle.ids.specs.Packing.{packed, unpacked}
 use Rattle.ids.specs.declared.Request.{Request}
-use Rattle.ids.specs.declared.Unpacked.TheVariants.{Is}
 use Rattle.ids.proofs.Claims.{packing_loses_nothing}
 use Rattle.registers.specs.Sizes.{refusal1}
 use Rattle.registers.specs.declared.Registers.{Registers}
-use Rattle.memory_image.specs.Extent.{Extent, extent_of, refusal2}
+use Rattle.memory_image.specs.Extent.{extent_of, refusal2}
+use Rattle.memory_image.specs.declared.Extent.{Extent}
 use Rattle.memory_image.specs.Rule.{Agree}
 use Rattle.memory_image.specs.Words.{bytes}
 use Rattle.memory_image.specs.declared.Piece.{Piece}
@@ -38,7 +39,6 @@ use Rattle.answer_words.specs.AnswerWords.{words_of, outcome_of, list_of}
 use Rattle.answer_words.proofs.AnswerWordsLaws.{words_length, stands_count, proper_own}
 use Rattle.lookup.specs.Lookup.{looked_up, answered, ruled}
 use Rattle.lookup.specs.declared.Looked.{Looked}
-use Rattle.lookup.specs.declared.Answer.TheVariants as looked
 use Rattle.lookup_claims.proofs.Claims.{depends_on_list, listed_lies, answers_proper, kept_is_read_back}
 use Rattle.book_words.specs.Layout.{slots_most, book_words, base_at, length_at, keys_from, slots_of, registers_of, extent_held, key_at, block_at, key_of, kept_at, opened_with}
 use Rattle.book_words.proofs.KeptLaws.{kept_length, kept_before_lem, kept_key, kept_key_other, kept_block, kept_block_other}
@@ -49,8 +49,6 @@ use Rattle.book.specs.Book.{shares, struck_from, slot_of, empty_slot, now_holdin
 use Rattle.book.specs.declared.Asked.{Asked}
 use Rattle.book.specs.declared.Reply.{Reply}
 use Rattle.book.specs.declared.Reply.TheVariants as reply
-use Rattle.book.specs.declared.Said.{Said}
-use Rattle.book.specs.declared.Said.TheVariants as said
 use Rattle.book.proofs.NoticeLaws.{apart_from, untouched}
 use Rattle.book.proofs.StruckLaws.{struck_length, struck_else, struck_block, struck_left, struck_well}
 use Rattle.book_history.specs.History.{State, Event, edit, notice, ask, report, opens, History, start, more, Begun, Narrow, today, within, holding, editing, handed, differs, handing, noticing, asking, opening}
@@ -61,7 +59,7 @@ use Rattle.book_history.proofs.AskedLaws.{passed, looked_is}
 
 -- what a slot's block says, as a lookup would
 abbrev pub held_in : List ℕ → Looked
-held_in block = record { answer = looked.Is (outcome_of block); list = list_of block }
+held_in block = record { answer = Ok (outcome_of block); list = list_of block }
 
 pub record Sound (s : State) : Type 0 where
   pub size : length s.words ≡ book_words
@@ -129,7 +127,7 @@ module _ (begin size : ℕ) where
     struck : List ℕ
     struck = struck_from s.words begin size slots_most 0
 
-    pub struck_sound : Sound s → Sound (noticing said.Done s begin size (struck_from s.words begin size slots_most 0))
+    pub struck_sound : Sound s → Sound (noticing (Ok tt) s begin size (struck_from s.words begin size slots_most 0))
     struck_sound h =
         record {
           size = struck_length begin size slots_most s.words 0 ∙ h.size;
@@ -151,7 +149,7 @@ module _ (begin size : ℕ) where
         stays :
             (i : ℕ) → i < slots_most → (key_at (struck_from s.words begin size slots_most 0) i ≡ 0 → ⊥)
             → Clean (λ a. if within begin size a then false else s.unnoticed a) (list_of (block_at (struck_from s.words begin size slots_most 0) i))
-            → (request : Request) → unpacked (key_at (struck_from s.words begin size slots_most 0) i - 1) ≡ Is request
+            → (request : Request) → unpacked (key_at (struck_from s.words begin size slots_most 0) i - 1) ≡ Some request
             → looked_up s.registers s.extent.base (today s) request ≡ held_in (block_at (struck_from s.words begin size slots_most 0) i)
         stays i small held clean request is =
             let left = struck_left s.words begin size i small held in
@@ -169,12 +167,12 @@ module _ (begin size : ℕ) where
 -- an ask that is kept
 module _ (s : State) (h : Sound s) (request : Request) (j : ℕ) (room : j < slots_of s.words)
     (new : (i : ℕ) → i < slots_most → key_at s.words i ≡ key_of request → ⊥)
-    (is_request : unpacked (key_of request - 1) ≡ Is request) {outcome : Outcome} {l : Pieces}
-    (told : looked_up s.registers s.extent.base (today s) request ≡ record { answer = looked.Is outcome; list = l }) where
+    (is_request : unpacked (key_of request - 1) ≡ Some request) {outcome : Outcome} {l : Pieces}
+    (told : looked_up s.registers s.extent.base (today s) request ≡ record { answer = Ok outcome; list = l }) where
   small_slot : j < slots_most
   small_slot = omega (arith, h.well.few)
 
-  kept_said : held_in (words_of outcome l) ≡ record { answer = looked.Is outcome; list = l }
+  kept_said : held_in (words_of outcome l) ≡ record { answer = Ok outcome; list = l }
   kept_said =
       let proper = answers_proper s.registers s.extent.base (today s) request outcome l told in
       let back = kept_is_read_back outcome l in
@@ -203,7 +201,7 @@ module _ (s : State) (h : Sound s) (request : Request) (j : ℕ) (room : j < slo
 
       slot :
           (i : ℕ) → i < slots_most → (key_at after i ≡ 0 → ⊥) → Clean s.unnoticed (list_of (block_at after i)) → (q : Request)
-          → unpacked (key_at after i - 1) ≡ Is q → (t : Bool) → eqb i j ≡ t
+          → unpacked (key_at after i - 1) ≡ Some q → (t : Bool) → eqb i j ≡ t
           → looked_up s.registers s.extent.base (today s) q ≡ held_in (block_at after i)
       slot i small held clean q is true e =
           let here : i ≡ j = eqb-true i j e in
@@ -211,7 +209,7 @@ module _ (s : State) (h : Sound s) (request : Request) (j : ℕ) (room : j < slo
           rw here (kept_key s.words j (key_of request) (words_of outcome l) h.size small_slot) in
           let kept : block_at after i ≡ words_of outcome l =
           rw here (kept_block s.words j (key_of request) (words_of outcome l) h.size small_slot (words_length outcome l)) in
-          let both : Is request ≡ Is q = sym is_request ∙ ap (λ (k : ℕ). unpacked (k - 1)) (sym key) ∙ is in
+          let both : Some request ≡ Some q = sym is_request ∙ ap (λ (k : ℕ). unpacked (k - 1)) (sym key) ∙ is in
           let same : request ≡ q = cc in
           rw (← same, kept) (told ∙ sym kept_said)
       slot i small held clean q is false e =
@@ -280,7 +278,7 @@ module _ (s : State) (h : Sound s) (base : ℕ) (memory : List ℕ) (request : R
           let low = first_low (slots_of s.words) s.words (key_of request) 0 i is (omega arith) (omega arith) in
           omega arith
 
-      back : refusal3 request ≡ false → unpacked (key_of request - 1) ≡ Is request
+      back : refusal3 request ≡ false → unpacked (key_of request - 1) ≡ Some request
       back third =
           let same : packed request + 1 - 1 ≡ packed request = omega arith in
           rw same (packing_loses_nothing request (record { stream = narrow; substream = third }))
@@ -288,18 +286,18 @@ module _ (s : State) (h : Sound s) (base : ℕ) (memory : List ℕ) (request : R
       by_room :
           (room : Bool) → ltb (empty_slot s.words) (slots_of s.words) ≡ room → slots_of s.words ≤ slot_of s.words request
           → refusal3 request ≡ false → {outcome : Outcome} {l : Pieces}
-          → looked_up s.registers s.extent.base (today s) request ≡ record { answer = looked.Is outcome; list = l }
-          → Sound (holding s (now_holding room s.words (empty_slot s.words) (key_of request) (looked.Is outcome) l))
+          → looked_up s.registers s.extent.base (today s) request ≡ record { answer = Ok outcome; list = l }
+          → Sound (holding s (now_holding room s.words (empty_slot s.words) (key_of request) (Ok outcome) l))
       by_room true e past third told = kept_sound s h request (empty_slot s.words) (ltb-true _ _ e) (unheld past) (back third) told
       by_room false e past third told = h
 
 -- any event
 module _ (s : State) (h : Sound s) where
   notice_sound :
-      (begin size : ℕ) (says : Said) (after : List ℕ) → Noticed s.words begin size says after → Sound (noticing says s begin size after)
-  notice_sound begin size (said.Refused n) after promise =
+      (begin size : ℕ) (says : Result ⊤ Refusal) (after : List ℕ) → Noticed s.words begin size says after → Sound (noticing says s begin size after)
+  notice_sound begin size (Err n) after promise =
       same_sound s after ((holds_what_it_held n).noticed s.words begin size after promise) h
-  notice_sound begin size said.Done after promise =
+  notice_sound begin size (Ok tt) after promise =
       let is : after ≡ struck_from s.words begin size slots_most 0 = rw (← promise.result) at promise.book in
       rw is (struck_sound begin size s h)
 
@@ -312,15 +310,15 @@ module _ (s : State) (h : Sound s) where
       accepted so =
           accepted_sound (handing s base memory) (edit_sound s (differs s base memory) (handed base memory) h) base memory request narrow (handed_today s base memory) asked after promise so
 
-      go : (told : Reply) → asked.reply ≡ told → Sound (asking told s base memory after)
-      go (reply.Refused n) is = same_sound s after ((holds_what_it_held n).asked_for s.words base memory request asked after promise is) h
-      go (reply.KeptBefore outcome) is = accepted (λ n other. let z : ◌≡◌ {A = ℕ} 0 1 = cc in absurd (omega arith))
-      go (reply.NewlyKept outcome) is = accepted (λ n other. let z : ◌≡◌ {A = ℕ} 0 1 = cc in absurd (omega arith))
-      go (reply.NotKept outcome) is = accepted (λ n other. let z : ◌≡◌ {A = ℕ} 0 1 = cc in absurd (omega arith))
+      go : (told : Result Reply Refusal) → asked.reply ≡ told → Sound (asking told s base memory after)
+      go (Err n) is = same_sound s after ((holds_what_it_held n).asked_for s.words base memory request asked after promise is) h
+      go (Ok (reply.KeptBefore outcome)) is = accepted (λ n other. let z : ◌≡◌ {A = ℕ} 0 1 = cc in absurd (omega arith))
+      go (Ok (reply.NewlyKept outcome)) is = accepted (λ n other. let z : ◌≡◌ {A = ℕ} 0 1 = cc in absurd (omega arith))
+      go (Ok (reply.NotKept outcome)) is = accepted (λ n other. let z : ◌≡◌ {A = ℕ} 0 1 = cc in absurd (omega arith))
 
 -- an accepted opening has passed its refusals
 accepted_parts :
-    (r : Registers) (e : Extent) (slots : ℕ) → open_says r e slots ≡ said.Done
+    (r : Registers) (e : Extent) (slots : ℕ) → open_says r e slots ≡ Ok tt
     → (refusal1 r ≡ false) × (refusal2 e ≡ false) × (slots ≡ 0 → ⊥) × (slots ≤ slots_most)
 unfolding open_says
 accepted_parts r e slots =
@@ -331,14 +329,14 @@ accepted_parts r e slots =
     let some = neither _ _ good in
     (first, second, eqb-false slots 0 some.0, ltb-false slots_most slots some.1))))
   where
-    Parts : Said → Type 0
-    Parts says = says ≡ said.Done → (refusal1 r ≡ false) × (refusal2 e ≡ false) × (slots ≡ 0 → ⊥) × (slots ≤ slots_most)
+    Parts : Result ⊤ Refusal → Type 0
+    Parts says = says ≡ Ok tt → (refusal1 r ≡ false) × (refusal2 e ≡ false) × (slots ≡ 0 → ⊥) × (slots ≤ slots_most)
 
-    refused : {A : Type 0} {n : ℕ} → said.Refused n ≡ said.Done → A
+    refused : {A : Type 0} {n : Refusal} → ◌≡◌ {A = Result ⊤ Refusal} (Err n) (Ok tt) → A
     refused e = let z : ◌≡◌ {A = ℕ} 0 1 = cc in absurd (omega arith)
 
 module _ (s : State) (r : Registers) (e : Extent) (slots : ℕ) (narrow : Narrow r) where
-  opened_sound : open_says r e slots ≡ said.Done → Sound (opening said.Done s r e (opened_with r e slots))
+  opened_sound : open_says r e slots ≡ Ok tt → Sound (opening (Ok tt) s r e (opened_with r e slots))
   unfolding opened_with
   opened_sound is =
       let parts = accepted_parts r e slots is in
@@ -350,14 +348,14 @@ module _ (s : State) (r : Registers) (e : Extent) (slots : ℕ) (narrow : Narrow
         fresh = λ i small held clean request of. absurd (held (opened_empty r e slots i small));
       }
 
-  pub begin_sound : (before after : List ℕ) → Opened r e slots before said.Done after → Sound (opening said.Done s r e after)
+  pub begin_sound : (before after : List ℕ) → Opened r e slots before (Ok tt) after → Sound (opening (Ok tt) s r e after)
   begin_sound before after promise =
       let is : after ≡ opened_with r e slots = rw (← promise.result) at promise.book in
       rw is (opened_sound (sym promise.result))
 
-  open_sound : (says : Said) (after : List ℕ) → Sound s → Opened r e slots s.words says after → Sound (opening says s r e after)
-  open_sound (said.Refused n) after h promise = same_sound s after ((holds_what_it_held n).opened r e slots s.words after promise) h
-  open_sound said.Done after h promise = begin_sound s.words after promise
+  open_sound : (says : Result ⊤ Refusal) (after : List ℕ) → Sound s → Opened r e slots s.words says after → Sound (opening says s r e after)
+  open_sound (Err n) after h promise = same_sound s after ((holds_what_it_held n).opened r e slots s.words after promise) h
+  open_sound (Ok done) after h promise = begin_sound s.words after promise
 
 event_sound : {s t : State} → Event s t → Sound s → Sound t
 event_sound {s = s} (edit at other) h = edit_sound s at other h

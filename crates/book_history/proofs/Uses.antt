@@ -1,5 +1,7 @@
 -- What follows from the claims: specs/Uses.antt, each from the claims that it names.
 -- Assumes: nothing.
+use Rattle.answers.specs.declared.refusals.Refusal.{Refusal}
+use Rattle.answers.specs.declared.refusals.Refusal.TheVariants as refusal
 use Prim.Native.Nat.{ℕ, zero, suc, ◌+◌, ◌≤◌, ◌<◌, ◌-◌}
 use native.Mathlib.Omega.{arith}
 use mathlib.Core.Path.{◌≡◌, refl, sym, ap, ◌∙◌}
@@ -7,14 +9,13 @@ use mathlib.Core.Bool.{Bool, true, false}
 use mathlib.Core.Logic.{◌⊎◌, inl, inr}
 use lib.Dec.{ltb}
 use lib.ListN.{get_or, length}
-use Rattle.std.specs.Prelude.{if◌then◌else◌}
+use Rattle.std.specs.Prelude.{if◌then◌else◌, Err, Ok, Result}
 use Rattle.ids.specs.Packing.{packed}
 use Rattle.ids.proofs.Claims.{equal_words_only, one_word_each, none_is_not_zero}
 use Rattle.memory_image.specs.declared.Piece.{Piece}
 use Rattle.answers.specs.Pieces.{nothing}
 use Rattle.lookup.specs.Lookup.{looked_up, answered, ruled}
 use Rattle.lookup.specs.declared.Looked.{Looked}
-use Rattle.lookup.specs.declared.Answer.TheVariants as looked
 use Rattle.lookup_claims.proofs.Claims.{depends_on_list}
 use Rattle.book_words.specs.Layout.{book_words, slots_of, key_at, key_of, opened_with}
 use Rattle.book_words.proofs.KeepsLaws.{opened_length}
@@ -23,7 +24,6 @@ use Rattle.book.specs.Book.{ask_result, notice_says, shares}
 use Rattle.book.specs.declared.Reply.{Reply}
 use Rattle.book.specs.declared.Reply.TheVariants as reply
 use Rattle.report.specs.Report.{Reported, report_text}
-use Rattle.report.specs.declared.Written.TheVariants as written
 use Rattle.report.proofs.Claims.{report_fits}
 use Rattle.book_history.specs.History.{State, Begun}
 use Rattle.book_history.specs.Demand3.{answer_in, looked_in, KeptIn, Empty, NewIn}
@@ -52,11 +52,11 @@ asked_by_the_rules s began base memory request narrow clean asked after promise 
     is : looked_in asked ≡ looked_up s.registers base memory request
     is = never_stale s began base memory request narrow clean asked after promise accepted
 
-    go : (told : Reply) → asked.reply ≡ told → looked_in asked ≡ answered (ruled s.registers base memory request)
-    go (reply.Refused n) so = absurd (accepted n so)
-    go (reply.KeptBefore outcome) so = answer_of_the_rules s.registers base memory request (looked_in asked) is outcome (ap answer_in so)
-    go (reply.NewlyKept outcome) so = answer_of_the_rules s.registers base memory request (looked_in asked) is outcome (ap answer_in so)
-    go (reply.NotKept outcome) so = answer_of_the_rules s.registers base memory request (looked_in asked) is outcome (ap answer_in so)
+    go : (told : Result Reply Refusal) → asked.reply ≡ told → looked_in asked ≡ answered (ruled s.registers base memory request)
+    go (Err n) so = absurd (accepted n so)
+    go (Ok (reply.KeptBefore outcome)) so = answer_of_the_rules s.registers base memory request (looked_in asked) is outcome (ap answer_in so)
+    go (Ok (reply.NewlyKept outcome)) so = answer_of_the_rules s.registers base memory request (looked_in asked) is outcome (ap answer_in so)
+    go (Ok (reply.NotKept outcome)) so = answer_of_the_rules s.registers base memory request (looked_in asked) is outcome (ap answer_in so)
 
 -- whole answers are compared, and the address is part of one
 pub address_compared : (event address : ℕ) → AddressCompared event address
@@ -67,7 +67,7 @@ address_compared event address =
       asked_for = λ s began base memory request narrow clean asked after promise accepted said.
           ap (λ (l : Looked). l.answer) (sym (never_stale s began base memory request narrow clean asked after promise accepted)) ∙ said;
       held = λ s began i small full clean request is said.
-          ap (λ (l : Looked). l.answer) (still_good s began i small full clean request is) ∙ ap looked.Is said;
+          ap (λ (l : Looked). l.answer) (still_good s began i small full clean request is) ∙ ap Ok said;
     }
 
 -- a test that cannot hold doesn't
@@ -177,12 +177,12 @@ pub report_always_fits : ReportAlwaysFits
 report_always_fits s began before says after promise enough =
     go (ltb (length before) (length (report_text s.words))) refl
   where
-    is : says ≡ (if ltb (length before) (length (report_text s.words)) then written.Refused 8 else written.Length (length (report_text s.words)))
+    is : says ≡ (if ltb (length before) (length (report_text s.words)) then Err refusal.Room else Ok (length (report_text s.words)))
     is = only_refused_for_room s began before says after promise
 
-    go : (t : Bool) → ltb (length before) (length (report_text s.words)) ≡ t → says ≡ written.Length (length (report_text s.words))
+    go : (t : Bool) → ltb (length before) (length (report_text s.words)) ≡ t → says ≡ Ok (length (report_text s.words))
     go true e =
-        let refused : says ≡ written.Refused 8 = is ∙ rw e in
-        let there : Reported s.words before (written.Refused 8) after = rw refused at promise in
+        let refused : says ≡ Err refusal.Room = is ∙ rw e in
+        let there : Reported s.words before (Err refusal.Room) after = rw refused at promise in
         absurd (report_fits s.words before after enough there)
     go false e = is ∙ rw e

@@ -7,27 +7,23 @@
 --     OnlyRefusedForRoom    after an accepted opening and any history, the report is refused only where its text doesn't fit
 --     OneOpening, OneAsk, OneNotice  any two results that a promise allows for one input are equal, and so are the words afterwards
 -- Assumes: nothing.
-use Rattle.std.specs.Prelude.{ℕ, ◌+◌, ◌≤◌, ◌<◌, ◌-◌, ◌≡◌, Bool, true, false, List, ltb, length, if◌then◌else◌}
+use Rattle.answers.specs.declared.refusals.Refusal.TheVariants as refusal
+use Rattle.std.specs.Prelude.{ℕ, ◌+◌, ◌≤◌, ◌<◌, ◌-◌, ◌≡◌, Bool, true, false, List, ltb, length, if◌then◌else◌, Err, Ok, Result, Some, ⊤}
+use Rattle.answers.specs.declared.refusals.Refusal.{Refusal}
 use Rattle.ids.specs.Packing.{unpacked}
 use Rattle.ids.specs.declared.Request.{Request}
-use Rattle.ids.specs.declared.Unpacked.TheVariants.{Is}
 use Rattle.registers.specs.declared.Registers.{Registers}
-use Rattle.memory_image.specs.Extent.{Extent}
+use Rattle.memory_image.specs.declared.Extent.{Extent}
 use Rattle.memory_image.specs.declared.Piece.{Piece}
 use Rattle.answers.specs.Pieces.{EachPiece}
 use Rattle.answers.specs.declared.Pieces.{Pieces}
 use Rattle.answer_words.specs.AnswerWords.{outcome_of, list_of}
 use Rattle.lookup.specs.Lookup.{looked_up}
-use Rattle.lookup.specs.declared.Answer.TheVariants as looked
 use Rattle.book_words.specs.Layout.{slots_most, registers_of, extent_held, key_at, block_at}
 use Rattle.book_words.specs.Malformed.{refusal7}
 use Rattle.book.specs.Book.{Opened, Asks, Noticed, shares}
 use Rattle.book.specs.declared.Asked.{Asked}
-use Rattle.book.specs.declared.Said.{Said}
-use Rattle.book.specs.declared.Said.TheVariants.{Done}
 use Rattle.report.specs.Report.{Reported, report_text}
-use Rattle.report.specs.declared.Written.{Written}
-use Rattle.report.specs.declared.Written.TheVariants.{Refused, Length}
 use Rattle.book_history.specs.History.{State, today, Begun}
 use Rattle.book_history.specs.Demand3.{Shared}
 
@@ -39,9 +35,9 @@ Clean unnoticed l = EachPiece (λ p. (a : ℕ) → p.address ≤ a → a < p.add
 abbrev pub FreshIn : State → Type 0
 FreshIn s =
     (i : ℕ) → i < slots_most → (key_at s.words i ≡ 0 → ⊥) → Clean s.unnoticed (list_of (block_at s.words i))
-    → (request : Request) → unpacked (key_at s.words i - 1) ≡ Is request
+    → (request : Request) → unpacked (key_at s.words i - 1) ≡ Some request
     → looked_up s.registers s.extent.base (today s) request
-    ≡ record { answer = looked.Is (outcome_of (block_at s.words i)); list = list_of (block_at s.words i) }
+    ≡ record { answer = Ok (outcome_of (block_at s.words i)); list = list_of (block_at s.words i) }
 
 abbrev pub StillGood : Type 0
 StillGood = (s : State) → Begun s → FreshIn s
@@ -54,7 +50,7 @@ HeaderStays = (s : State) → Begun s → (registers_of s.words ≡ s.registers)
 
 abbrev pub StartsEmpty : Type 0
 StartsEmpty =
-    (r : Registers) (e : Extent) (slots : ℕ) (before after : List ℕ) → Opened r e slots before Done after
+    (r : Registers) (e : Extent) (slots : ℕ) (before after : List ℕ) → Opened r e slots before (Ok tt) after
     → (i : ℕ) → i < slots_most → key_at after i ≡ 0
 
 abbrev pub SharesMeans : Type 0
@@ -64,12 +60,12 @@ SharesMeans =
 
 abbrev pub OnlyRefusedForRoom : Type 0
 OnlyRefusedForRoom =
-    (s : State) → Begun s → (before : List ℕ) (says : Written) (after : List ℕ) → Reported s.words before says after
-    → says ≡ (if ltb (length before) (length (report_text s.words)) then Refused 8 else Length (length (report_text s.words)))
+    (s : State) → Begun s → (before : List ℕ) (says : Result ℕ Refusal) (after : List ℕ) → Reported s.words before says after
+    → says ≡ (if ltb (length before) (length (report_text s.words)) then Err refusal.Room else Ok (length (report_text s.words)))
 
 abbrev pub OneOpening : Type 0
 OneOpening =
-    (r : Registers) (e : Extent) (slots : ℕ) (before : List ℕ) (x y : Said) (after other : List ℕ)
+    (r : Registers) (e : Extent) (slots : ℕ) (before : List ℕ) (x y : Result ⊤ Refusal) (after other : List ℕ)
     → Opened r e slots before x after → Opened r e slots before y other → (x ≡ y) × (after ≡ other)
 
 abbrev pub OneAsk : Type 0
@@ -79,5 +75,5 @@ OneAsk =
 
 abbrev pub OneNotice : Type 0
 OneNotice =
-    (ws : List ℕ) (start size : ℕ) (x y : Said) (after other : List ℕ)
+    (ws : List ℕ) (start size : ℕ) (x y : Result ⊤ Refusal) (after other : List ℕ)
     → Noticed ws start size x after → Noticed ws start size y other → (x ≡ y) × (after ≡ other)

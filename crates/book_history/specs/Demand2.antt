@@ -4,7 +4,7 @@
 --     OutsideNeverCounts     "bytes outside it never change the answer."
 -- That bytes of the memory which aren't listed don't either is `DependsOnList` (lookup_claims/specs/Claims.antt).
 -- Assumes: nothing.
-use Rattle.std.specs.Prelude.{ℕ, ◌+◌, ◌≤◌, ◌<◌, ◌≡◌, List, length}
+use Rattle.std.specs.Prelude.{ℕ, ◌+◌, ◌≤◌, ◌<◌, ◌≡◌, List, length, Ok}
 use Rattle.placed.specs.From.{tab}
 use Rattle.ids.specs.declared.Request.{Request}
 use Rattle.registers.specs.declared.Registers.{Registers}
@@ -12,13 +12,12 @@ use Rattle.answers.specs.Pieces.{EachPiece}
 use Rattle.answers.specs.declared.Outcome.{Outcome}
 use Rattle.lookup.specs.Lookup.{looked_up, answered, ruled}
 use Rattle.lookup.specs.declared.Looked.{Looked}
-use Rattle.lookup.specs.declared.Answer.TheVariants.{Is}
 
 -- `lookup` promises `told ≡ looked_up ..`; `ruled` runs the rules of docs/RULES.md on the memory
 abbrev pub AnswerOfTheRules : Type 0
 AnswerOfTheRules =
     (r : Registers) (base : ℕ) (memory : List ℕ) (request : Request) (told : Looked) → told ≡ looked_up r base memory request
-    → (outcome : Outcome) → told.answer ≡ Is outcome → told ≡ answered (ruled r base memory request)
+    → (outcome : Outcome) → told.answer ≡ Ok outcome → told ≡ answered (ruled r base memory request)
 
 abbrev pub EachLies : Type 0
 EachLies =

@@ -6,7 +6,8 @@
 -- The events of a history are calls that met their promises (History.antt); the last three speak of one call each, on a book of any words. A
 -- book has `book_words` words, as its type says.
 -- Assumes: nothing.
-use Rattle.std.specs.Prelude.{ℕ, ◌+◌, ◌^◌, ◌≤◌, ◌<◌, ◌≡◌, false, List, ◌⊎◌, get_or, length}
+use Rattle.std.specs.Prelude.{ℕ, ◌+◌, ◌^◌, ◌≤◌, ◌<◌, ◌≡◌, false, List, ◌⊎◌, get_or, length, Err, Ok, Result}
+use Rattle.answers.specs.declared.refusals.Refusal.{Refusal}
 use Rattle.ids.specs.declared.Request.{Request}
 use Rattle.memory_image.specs.declared.Piece.{Piece}
 use Rattle.answers.specs.Layout.{answer_words}
@@ -15,26 +16,23 @@ use Rattle.answers.specs.declared.Outcome.{Outcome}
 use Rattle.answer_words.specs.AnswerWords.{words_of, outcome_of, list_of}
 use Rattle.lookup.specs.Lookup.{looked_up}
 use Rattle.lookup.specs.declared.Looked.{Looked}
-use Rattle.lookup.specs.declared.Answer.{Answer}
-use Rattle.lookup.specs.declared.Answer.TheVariants as looked
 use Rattle.book_words.specs.Layout.{slots_most, book_words, keys_from, slots_of, registers_of, key_at, block_from, block_at, key_of}
 use Rattle.book.specs.Book.{Asks, Noticed}
 use Rattle.book.specs.declared.Asked.{Asked}
-use Rattle.book.specs.declared.Said.TheVariants.{Done}
 use Rattle.book.specs.declared.Reply.{Reply}
-use Rattle.book.specs.declared.Reply.TheVariants.{Refused, KeptBefore, NewlyKept, NotKept}
+use Rattle.book.specs.declared.Reply.TheVariants.{KeptBefore, NewlyKept, NotKept}
 use Rattle.book_history.specs.History.{State, handing, Begun}
 
 -- an ask is accepted
-abbrev pub Accepted : Reply → Type 0
-Accepted told = (n : ℕ) → told ≡ Refused n → ⊥
+abbrev pub Accepted : Result Reply Refusal → Type 0
+Accepted told = (n : Refusal) → told ≡ Err n → ⊥
 
 -- its answer and list, whether it was kept or not, as a lookup gives them
-abbrev pub answer_in : Reply → Answer
-answer_in (Refused n) = looked.Refused n
-answer_in (KeptBefore outcome) = looked.Is outcome
-answer_in (NewlyKept outcome) = looked.Is outcome
-answer_in (NotKept outcome) = looked.Is outcome
+abbrev pub answer_in : Result Reply Refusal → Result Outcome Refusal
+answer_in (Err n) = Err n
+answer_in (Ok (KeptBefore outcome)) = Ok outcome
+answer_in (Ok (NewlyKept outcome)) = Ok outcome
+answer_in (Ok (NotKept outcome)) = Ok outcome
 
 abbrev pub looked_in : Asked → Looked
 looked_in asked = record { answer = answer_in asked.reply; list = asked.list }
@@ -73,7 +71,7 @@ pub record Struck (ws : List ℕ) (start size : ℕ) (after : List ℕ) : Type 0
 
 abbrev pub StrikesExactly : Type 0
 StrikesExactly =
-    (ws : List ℕ) (start size : ℕ) (after : List ℕ) → Noticed ws start size Done after → Struck ws start size after
+    (ws : List ℕ) (start size : ℕ) (after : List ℕ) → Noticed ws start size (Ok tt) after → Struck ws start size after
 
 -- a request's answer is kept in a slot
 pub record KeptIn (ws : List ℕ) (request : Request) (i : ℕ) : Type 0 where
@@ -89,7 +87,7 @@ pub record NewIn (ws : List ℕ) (request : Request) (asked : Asked) (after : Li
   pub empty : Empty ws slot
   pub lowest : (i : ℕ) → i < slot → Empty ws i → ⊥
   pub outcome : Outcome
-  pub told : asked.reply ≡ NewlyKept outcome
+  pub told : asked.reply ≡ Ok (NewlyKept outcome)
   pub key : key_at after slot ≡ key_of request
   pub block : block_at after slot ≡ words_of outcome asked.list
   pub rest :
@@ -98,7 +96,7 @@ pub record NewIn (ws : List ℕ) (request : Request) (asked : Asked) (after : Li
 -- no slot is empty: the answer isn't kept, and no word changes
 pub record NoRoom (ws : List ℕ) (asked : Asked) (after : List ℕ) : Type 0 where
   pub outcome : Outcome
-  pub told : asked.reply ≡ NotKept outcome
+  pub told : asked.reply ≡ Ok (NotKept outcome)
   pub same : after ≡ ws
 
 -- an answer that isn't kept is that of a new lookup, and goes in the lowest empty slot if there is one
@@ -117,4 +115,4 @@ abbrev pub KeptFromItsSlot : Type 0
 KeptFromItsSlot =
     (ws : List ℕ) (base : ℕ) (memory : List ℕ) (request : Request) (asked : Asked) (after : List ℕ)
     → Asks ws base memory request asked after → Accepted asked.reply → (i : ℕ) → KeptIn ws request i
-    → (asked ≡ record { reply = KeptBefore (outcome_of (block_at ws i)); list = list_of (block_at ws i) }) × (after ≡ ws)
+    → (asked ≡ record { reply = Ok (KeptBefore (outcome_of (block_at ws i))); list = list_of (block_at ws i) }) × (after ≡ ws)

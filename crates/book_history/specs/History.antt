@@ -6,20 +6,18 @@
 --     Begun       an accepted opening, of words of whatever content, and any history since
 -- A register has 32 bits and a StreamID too, as their types say: `Narrow` and `narrow` say no more.
 -- Assumes: nothing.
-use Rattle.std.specs.Prelude.{ℕ, ◌+◌, ◌<◌, ◌^◌, ◌-◌, Bool, false, not, ◌&&◌, ◌||◌, List, eqb, leb, ltb, get_or, length, if◌then◌else◌}
+use Rattle.std.specs.Prelude.{ℕ, ◌+◌, ◌<◌, ◌^◌, ◌-◌, Bool, false, not, ◌&&◌, ◌||◌, List, eqb, leb, ltb, get_or, length, if◌then◌else◌, Err, Ok, Result, ⊤}
+use Rattle.answers.specs.declared.refusals.Refusal.{Refusal}
 use Rattle.placed.specs.From.{tab}
 use Rattle.ids.specs.declared.Request.{Request}
 use Rattle.registers.specs.Words.{register_words, words_of_registers}
 use Rattle.registers.specs.declared.Registers.{Registers}
-use Rattle.memory_image.specs.Extent.{Extent}
+use Rattle.memory_image.specs.declared.Extent.{Extent}
 use Rattle.book.specs.Book.{Opened, Asks, Noticed}
 use Rattle.book.specs.declared.Asked.{Asked}
 use Rattle.book.specs.declared.Reply.{Reply}
 use Rattle.book.specs.declared.Reply.TheVariants as reply
-use Rattle.book.specs.declared.Said.{Said}
-use Rattle.book.specs.declared.Said.TheVariants.{Done, Refused}
 use Rattle.report.specs.Report.{Reported}
-use Rattle.report.specs.declared.Written.{Written}
 
 pub record State : Type 0 where
   pub words : List ℕ
@@ -67,9 +65,9 @@ abbrev pub handing : State → ℕ → List ℕ → State
 handing s base memory = editing s (differs s base memory) (handed base memory)
 
 -- a notice that is refused notices nothing
-abbrev pub noticing : Said → State → ℕ → ℕ → List ℕ → State
-noticing (Refused n) s start size after = holding s after
-noticing Done s start size after =
+abbrev pub noticing : Result ⊤ Refusal → State → ℕ → ℕ → List ℕ → State
+noticing (Err n) s start size after = holding s after
+noticing (Ok tt) s start size after =
     record {
       words = after;
       memory = s.memory;
@@ -79,16 +77,16 @@ noticing Done s start size after =
     }
 
 -- an ask that is refused says nothing of the memory, whatever was handed in
-abbrev pub asking : Reply → State → ℕ → List ℕ → List ℕ → State
-asking (reply.Refused n) s base memory after = holding s after
-asking (reply.KeptBefore outcome) s base memory after = holding (handing s base memory) after
-asking (reply.NewlyKept outcome) s base memory after = holding (handing s base memory) after
-asking (reply.NotKept outcome) s base memory after = holding (handing s base memory) after
+abbrev pub asking : Result Reply Refusal → State → ℕ → List ℕ → List ℕ → State
+asking (Err n) s base memory after = holding s after
+asking (Ok (reply.KeptBefore outcome)) s base memory after = holding (handing s base memory) after
+asking (Ok (reply.NewlyKept outcome)) s base memory after = holding (handing s base memory) after
+asking (Ok (reply.NotKept outcome)) s base memory after = holding (handing s base memory) after
 
 -- an accepted opening is a new beginning: what was edited before doesn't matter
-abbrev pub opening : Said → State → Registers → Extent → List ℕ → State
-opening (Refused n) s r e after = holding s after
-opening Done s r e after =
+abbrev pub opening : Result ⊤ Refusal → State → Registers → Extent → List ℕ → State
+opening (Err n) s r e after = holding s after
+opening (Ok tt) s r e after =
     record { words = after; memory = s.memory; unnoticed = λ a. false; registers = r; extent = e }
 
 -- the registers of 32 bits have no more, as their type says
@@ -98,15 +96,15 @@ pub record Narrow (r : Registers) : Type 0 where
 pub data Event (s : State) : State → Type 0 where
   edit : (at : ℕ → Bool) (other : ℕ → ℕ) → Event s (editing s at other)
   notice :
-      (start size : ℕ) (says : Said) (after : List ℕ) → Noticed s.words start size says after
+      (start size : ℕ) (says : Result ⊤ Refusal) (after : List ℕ) → Noticed s.words start size says after
       → Event s (noticing says s start size after)
   -- at any base, with a memory of any length and of any bytes
   ask :
       (base : ℕ) (memory : List ℕ) (request : Request) (asked : Asked) (after : List ℕ) → request.stream.number < 2 ^ 32
       → Asks s.words base memory request asked after → Event s (asking asked.reply s base memory after)
-  report : (buffer : List ℕ) (says : Written) (after : List ℕ) → Reported s.words buffer says after → Event s s
+  report : (buffer : List ℕ) (says : Result ℕ Refusal) (after : List ℕ) → Reported s.words buffer says after → Event s s
   opens :
-      (r : Registers) (e : Extent) (slots : ℕ) (says : Said) (after : List ℕ) → Narrow r
+      (r : Registers) (e : Extent) (slots : ℕ) (says : Result ⊤ Refusal) (after : List ℕ) → Narrow r
       → Opened r e slots s.words says after → Event s (opening says s r e after)
 
 pub data History (s : State) : State → Type 0 where
@@ -121,5 +119,5 @@ pub record Begun (s : State) : Type 0 where
   pub slots : ℕ
   pub after : List ℕ
   pub narrow : Narrow registers
-  pub accepted : Opened registers extent slots before.words Done after
-  pub since : History (opening Done before registers extent after) s
+  pub accepted : Opened registers extent slots before.words (Ok tt) after
+  pub since : History (opening (Ok tt) before registers extent after) s

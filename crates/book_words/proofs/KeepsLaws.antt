@@ -3,6 +3,7 @@
 --     opened_empty, opened_length, opened_registers, open_well  a book just opened
 --     kept_well                       a slot filled
 -- Assumes: nothing.
+use Rattle.std.specs.Prelude.{Some}
 use Prim.Native.Nat.{ℕ, ◌+◌, ◌-◌, ◌*◌, ◌≤◌, ◌<◌, ◌^◌}
 use native.Mathlib.Omega.{arith}
 use native.Mathlib.Nat.{mod-eq_of_lt}
@@ -17,11 +18,11 @@ use Rattle.placed.proofs.FromLaws.{values_same, values_list, all_same, all_every
 use Rattle.bit_fields.specs.Bits.{in_bits}
 use Rattle.ids.specs.Packing.{unpacked}
 use Rattle.ids.specs.declared.Request.{Request}
-use Rattle.ids.specs.declared.Unpacked.TheVariants.{Is}
 use Rattle.registers.specs.Sizes.{refusal1}
 use Rattle.registers.specs.Words.{register_words, registers_from, words_of_registers}
 use Rattle.registers.specs.declared.Registers.{Registers}
-use Rattle.memory_image.specs.Extent.{Extent, refusal2}
+use Rattle.memory_image.specs.Extent.{refusal2}
+use Rattle.memory_image.specs.declared.Extent.{Extent}
 use Rattle.answers.specs.Layout.{answer_words}
 use Rattle.answer_words.specs.AnswerWords.{stands}
 use Rattle.book_words.specs.Layout.{
@@ -73,7 +74,7 @@ module _ (ws ws' : List ℕ) (same : (x : ℕ) → x < keys_from → get_or ws' 
 
 -- a slot filled
 module _ (ws : List ℕ) (j key : ℕ) (block : List ℕ) (full : length ws ≡ book_words) (well : Well ws) (room : j < slots_of ws)
-    (new : (i : ℕ) → i < slots_most → key_at ws i ≡ key → ⊥) {request : Request} (is_request : unpacked (key - 1) ≡ Is request)
+    (new : (i : ℕ) → i < slots_most → key_at ws i ≡ key → ⊥) {request : Request} (is_request : unpacked (key - 1) ≡ Some request)
     (long : length block ≡ answer_words) (answer : stands block ≡ true) where
   small_slot : j < slots_most
   small_slot = omega (arith, well.few)

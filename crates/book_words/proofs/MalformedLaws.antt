@@ -3,6 +3,7 @@
 --     few_slots, slot_below                                         a book that is not refused has at most slots_most slots
 --     bad_none, bad_many, bad_word, bad_registers, bad_extent, bad_slots  the row
 -- Assumes: nothing.
+use Rattle.std.specs.Prelude.{None, Option, Some}
 use Prim.Native.Nat.{ℕ, ◌-◌, ◌≤◌, ◌<◌}
 use native.Mathlib.Omega.{arith}
 use mathlib.Core.Path.{◌≡◌, sym, ◌∙◌}
@@ -14,11 +15,10 @@ use Rattle.number_laws.proofs.Tests.{not_both}
 use Rattle.bit_fields.proofs.ChoiceLaws.{either, by_test}
 use Rattle.ids.specs.Packing.{unpacked}
 use Rattle.ids.specs.declared.Request.{Request}
-use Rattle.ids.specs.declared.Unpacked.{Unpacked}
-use Rattle.ids.specs.declared.Unpacked.TheVariants.{Is, Nothing}
 use Rattle.registers.specs.Sizes.{refusal1}
 use Rattle.registers.specs.declared.Registers.{Registers}
 use Rattle.memory_image.specs.Extent.{refusal2}
+use Rattle.memory_image.specs.declared.Extent.{Extent}
 use Rattle.answer_words.specs.AnswerWords.{stands}
 use Rattle.book_words.specs.Layout.{slots_most, slots_of, registers_of, extent_held, key_at, block_at}
 use Rattle.book_words.specs.Malformed.{first_from, slot_well, well_from, registers_fit, refusal7}
@@ -33,12 +33,12 @@ module _ (ws : List ℕ) (i : ℕ) where
     unfolding slot_well
     slot_past past = simp (ne_eqb _ _ held, le-leb _ _ past)
 
-    module _ (inside : i < slots_of ws) {said : Unpacked} (is : said ≡ unpacked (key_at ws i - 1)) where
-      pub slot_none : said ≡ Nothing → false ≡ slot_well ws i
+    module _ (inside : i < slots_of ws) {said : Option Request} (is : said ≡ unpacked (key_at ws i - 1)) where
+      pub slot_none : said ≡ None → false ≡ slot_well ws i
       unfolding slot_well
       slot_none none = simp (ne_eqb _ _ held, lt-leb _ _ inside, ← is, none)
 
-      module _ {request : Request} (some : said ≡ Is request) {first : ℕ} (found : first ≡ first_from ws (key_at ws i) slots_most 0) where
+      module _ {request : Request} (some : said ≡ Some request) {first : ℕ} (found : first ≡ first_from ws (key_at ws i) slots_most 0) where
         pub slot_twice : (first ≡ i → ⊥) → false ≡ slot_well ws i
         unfolding slot_well
         slot_twice other = simp (ne_eqb _ _ held, lt-leb _ _ inside, ← is, some, ← found, ne_eqb _ _ other)
@@ -69,17 +69,17 @@ module _ (ws : List ℕ) where
         unfolding refusal7
         bad_registers bad = simp (ne_eqb _ _ some, le-ltb _ _ few, ← is_fit, not-false fit fits, ← is_r, ← is_first, bad)
 
-        module _ (passed : first ≡ false) {second : Bool} (is_second : second ≡ refusal2 (extent_held ws)) where
+        module _ (passed : first ≡ false) {e : Extent} (is_e : e ≡ extent_held ws) {second : Bool} (is_second : second ≡ refusal2 e) where
           pub bad_extent : second ≡ true → true ≡ refusal7 ws
           unfolding refusal7
           bad_extent bad =
-              simp (ne_eqb _ _ some, le-ltb _ _ few, ← is_fit, not-false fit fits, ← is_r, ← is_first, passed, ← is_second, bad)
+              simp (ne_eqb _ _ some, le-ltb _ _ few, ← is_fit, not-false fit fits, ← is_r, ← is_first, passed, ← is_e, ← is_second, bad)
 
           pub bad_slots : second ≡ false → {well : Bool} → well ≡ well_from ws slots_most 0 → not well ≡ refusal7 ws
           unfolding refusal7
           bad_slots good is =
               rw is
-              (simp (ne_eqb _ _ some, le-ltb _ _ few, ← is_fit, not-false fit fits, ← is_r, ← is_first, passed, ← is_second, good))
+              (simp (ne_eqb _ _ some, le-ltb _ _ few, ← is_fit, not-false fit fits, ← is_r, ← is_first, passed, ← is_e, ← is_second, good))
 
 few_at_most : (ws : List ℕ) → refusal7 ws ≡ false → slots_of ws ≤ slots_most
 unfolding refusal7

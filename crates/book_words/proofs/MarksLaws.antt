@@ -1,6 +1,6 @@
 -- The marks of the search for equal keys, for any place that a key may have.
 --     mark_place                a key's place is among the marks
---     marked_none, marked_more  before the first slot; one slot more
+--     marked_more               one slot more
 --     first_unmarked            a key without a mark stands in no slot below
 -- Assumes: nothing.
 use Prim.Native.Nat.{ℕ, zero, suc, ◌+◌, ◌-◌, ◌≤◌, ◌<◌}
@@ -11,7 +11,7 @@ use mathlib.Core.Bool.{Bool, true, false}
 use mathlib.Core.List.{List}
 use borrow.Author.Tests.{eqb-true, eqb-false}
 use lib.Dec.{eqb}
-use lib.ListN.{get_or, set, replicate, length-set, length-replicate}
+use lib.ListN.{get_or, set, length-set}
 use lib.Seq.{get_or-set_same, get_or-set_other}
 use Rattle.book_words.specs.Layout.{slots_most, key_at}
 use Rattle.book_words.specs.Malformed.{first_from}
@@ -22,9 +22,6 @@ pub mark_place : (key : ℕ) → mark_of key < marks
 mark_place key = omega arith
 
 module _ (place : ℕ → ℕ) (ws : List ℕ) where
-  by_none : MarkedBy place ws 0 (replicate marks 0)
-  by_none = record { room = length-replicate {A = ℕ} marks 0; marked = λ j less. absurd (omega arith) }
-
   by_more :
       (i : ℕ) (seen : List ℕ) → place (key_at ws i) < marks → MarkedBy place ws i seen
       → MarkedBy place ws (i + 1) (set seen (place (key_at ws i)) 1)
@@ -67,9 +64,6 @@ module _ (place : ℕ → ℕ) (ws : List ℕ) where
       passed (suc j) less = rw (next j) (first_more ws key n (passed j (omega arith)) (omega arith) (unlike j (omega arith)))
 
 module _ (ws : List ℕ) where
-  pub marked_none : Marked ws 0 (replicate marks 0)
-  marked_none = by_none mark_of ws
-
   pub marked_more :
       (i : ℕ) (seen : List ℕ) → Marked ws i seen → {place : ℕ} → place ≡ mark_of (key_at ws i) → Marked ws (i + 1) (set seen place 1)
   marked_more i seen so_far is = rw is (by_more mark_of ws i seen (mark_place (key_at ws i)) so_far)

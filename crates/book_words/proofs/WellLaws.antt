@@ -11,13 +11,11 @@ use mathlib.Core.List.{List}
 use borrow.Author.Tests.{eq-eqb, ne_eqb, le-ltb, lt-leb, eqb-true, eqb-false, ltb-true, ltb-false, leb-false, not-false}
 use lib.Dec.{eqb, leb, ltb}
 use Rattle.number_laws.proofs.Tests.{not_both}
-use Rattle.std.specs.Prelude.{if◌then◌else◌}
+use Rattle.std.specs.Prelude.{if◌then◌else◌, None, Option, Some}
 use Rattle.bit_fields.proofs.ChoiceLaws.{by_test}
 use Rattle.placed.proofs.FromLaws.{all_each, all_every}
 use Rattle.ids.specs.Packing.{unpacked}
 use Rattle.ids.specs.declared.Request.{Request}
-use Rattle.ids.specs.declared.Unpacked.{Unpacked}
-use Rattle.ids.specs.declared.Unpacked.TheVariants.{Is, Nothing}
 use Rattle.registers.specs.Sizes.{refusal1}
 use Rattle.memory_image.specs.Extent.{refusal2}
 use Rattle.answer_words.specs.AnswerWords.{stands}
@@ -68,13 +66,13 @@ first_is ws x i small is alone =
 pub record Held (ws : List ℕ) (i : ℕ) : Type 0 where
   pub inside : i < slots_of ws
   pub request : Request
-  pub is_request : unpacked (key_at ws i - 1) ≡ Is request
+  pub is_request : unpacked (key_at ws i - 1) ≡ Some request
   pub alone : (j : ℕ) → j < i → key_at ws j ≡ key_at ws i → ⊥
   pub answer : stands (block_at ws i) ≡ true
 
-has_request : {A : Type 0} (u : Unpacked) → some_request u ≡ true → ((request : Request) → u ≡ Is request → A) → A
-has_request Nothing is next = not_both (sym is)
-has_request (Is request) is next = next request refl
+has_request : {A : Type 0} (u : Option Request) → some_request u ≡ true → ((request : Request) → u ≡ Some request → A) → A
+has_request None is next = not_both (sym is)
+has_request (Some request) is next = next request refl
 
 module _ (ws : List ℕ) (i : ℕ) (small : i < slots_most) where
   pub held_to : slot_well ws i ≡ true → (key_at ws i ≡ 0 → ⊥) → Held ws i

@@ -20,7 +20,7 @@ use Rattle.placed.proofs.LeftLaws.{left_all, left_one, left_placed}
 use Rattle.placed.proofs.FilledLaws.{Filled, filled_all, value_put, values_put}
 use Rattle.registers.specs.Words.{register_words, registers_from, words_of_registers}
 use Rattle.registers.specs.declared.Registers.{Registers}
-use Rattle.memory_image.specs.Extent.{Extent}
+use Rattle.memory_image.specs.declared.Extent.{Extent}
 use Rattle.answers.specs.Layout.{answer_words}
 use Rattle.book_words.specs.Layout.{
   slots_most,
@@ -43,9 +43,9 @@ use Rattle.book_words.specs.Layout.{
 
 module _ (ws : List ℕ) where
   pub other_is :
-      (base size : ℕ) {same : Bool} → same ≡ (eqb base (get_or ws base_at 0) && eqb size (get_or ws length_at 0))
-      → not same ≡ other_extent ws base size
-  other_is base size is = rw is
+      (e : Extent) {held : Extent} → held ≡ extent_held ws → {other : Bool} → other ≡ not (eqb e.base held.base && eqb e.length held.length)
+      → other ≡ other_extent ws e.base e.length
+  other_is e is_held is = is ∙ rw is_held
 
   pub same_extent : (base size : ℕ) → other_extent ws base size ≡ false → record { base = base; length = size } ≡ extent_held ws
   same_extent base size is =

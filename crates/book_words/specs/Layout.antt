@@ -1,7 +1,7 @@
 -- The book's words: a header, one column of keys, a block for each slot.
 --     slots_most, book_words                         the sizes
 --     registers_at .. keys_from, blocks_from         where each part stands
---     slots_of, registers_of, base_of, length_of     the header, as read
+--     slots_of, registers_of, base_of, length_of     the header, as read; `extent_held` is base and length in one
 --     key_at, block_at                               the key and the block of a slot
 --     key_of                                         the key of a request: 0 is an empty slot's
 --     copied, kept_at                                words written from a place on; a slot filled
@@ -14,7 +14,7 @@ use Rattle.ids.specs.declared.Request.{Request}
 use Rattle.placed.specs.From.{tab}
 use Rattle.registers.specs.Words.{register_words, registers_from, words_of_registers}
 use Rattle.registers.specs.declared.Registers.{Registers}
-use Rattle.memory_image.specs.Extent.{Extent}
+use Rattle.memory_image.specs.declared.Extent.{Extent}
 use Rattle.answers.specs.Layout.{answer_words}
 
 abbrev pub slots_most : ℕ

@@ -3,11 +3,10 @@
 --     slot_well       what is asked of one slot
 --     first_from      the lowest slot with a key
 -- Assumes: nothing.
-use Rattle.std.specs.Prelude.{ℕ, zero, suc, ◌+◌, ◌-◌, Bool, true, false, not, List, eqb, leb, ltb, get_or, if◌then◌else◌}
+use Rattle.std.specs.Prelude.{ℕ, zero, suc, ◌+◌, ◌-◌, Bool, true, false, not, List, eqb, leb, ltb, get_or, if◌then◌else◌, None, Option, Some}
+use Rattle.ids.specs.declared.Request.{Request}
 use Rattle.bit_fields.specs.Bits.{in_bits}
 use Rattle.ids.specs.Packing.{unpacked}
-use Rattle.ids.specs.declared.Unpacked.{Unpacked}
-use Rattle.ids.specs.declared.Unpacked.TheVariants.{Is, Nothing}
 use Rattle.placed.specs.From.{all_from}
 use Rattle.registers.specs.Sizes.{refusal1}
 use Rattle.registers.specs.Words.{register_words}
@@ -23,9 +22,9 @@ first_from ws x (suc m) i =
     else first_from ws x m (i + 1)
 
 -- a word stands for a request
-abbrev pub some_request : Unpacked → Bool
-some_request (Is request) = true
-some_request Nothing = false
+abbrev pub some_request : Option Request → Bool
+some_request (Some request) = true
+some_request None = false
 
 -- a slot is empty; or it isn't past the number of slots, its key stands for a request that doesn't fail 3, no slot before it has the same one,
 -- and its words stand for an answer: at most pieces_most pieces, each ending at or below 2^52, an event or unserved number that is listed

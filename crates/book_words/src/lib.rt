@@ -2,12 +2,12 @@
 // Meets specs/Layout.antt; the search, `first_from`, meets that of specs/Malformed.antt.
 #![tactic(auto)]
 
-ghost use Rattle.std.specs.Prelude.{◌≡◌, ◌+◌, ◌≤◌, ◌<◌};
-ghost use Rattle.answers.specs.Layout.{answer_words};
-ghost use Rattle.book_words.specs.Layout.{block_at, book_words, copied, kept_at, low_word, opened_with, other_extent, registers_of, slots_most};
+ghost use Rattle.std.specs.Prelude.{◌≡◌, ◌≤◌, ◌<◌};
+ghost use Rattle.book_words.specs.Layout.{block_at, kept_at, low_word, opened_with, extent_held, other_extent, registers_of, slots_most};
 ghost use Rattle.book_words.specs.Malformed.{first_from};
 
 use answers::ANSWER_WORDS;
+use memory_image::Extent;
 use registers::{REGISTER_WORDS, Registers};
 
 pub mod well;
@@ -33,20 +33,18 @@ const BLOCKS: usize = KEYS + SLOTS_MOST;
 pub const BOOK_WORDS: usize = BLOCKS + SLOTS_MOST * ANSWER_WORDS;
 
 // Every word of a book that is opened.
-pub fn fill(book: &mut [u64; BOOK_WORDS], registers: Registers, base: u64, length: u64, slots: u64)
-    ensures { book.new ≡ opened_with registers (record { base = base; length = length }) slots }
+pub fn fill(book: &mut [u64; BOOK_WORDS], registers: Registers, extent: Extent, slots: u64)
+    ensures { book.new ≡ opened_with registers extent slots }
 {
     let words = registers.words();
     *book = [0u64; BOOK_WORDS];
     book[0] = slots;
-    let mut k: usize = 0;
-    while k < REGISTER_WORDS {
-        book[REGISTERS_AT + k] = words[k] as u64;
-        k += 1;
+    for (k, word) in words.iter().enumerate() {
+        book[REGISTERS_AT + k] = *word as u64;
     }
     book[STRTAB_BASE_AT] = registers.strtab_base;
-    book[BASE_AT] = base;
-    book[LENGTH_AT] = length;
+    book[BASE_AT] = extent.base;
+    book[LENGTH_AT] = extent.length;
 }
 
 // The low 32 bits of a word.
@@ -61,62 +59,53 @@ pub fn registers_of(book: &[u64; BOOK_WORDS]) -> Registers
     ensures { result ≡ registers_of book.now }
 {
     let mut words = [0u32; REGISTER_WORDS];
-    let mut j: usize = 0;
-    while j < REGISTER_WORDS {
-        words[j] = low_word(book[REGISTERS_AT + j]);
-        j += 1;
+    for (j, word) in words.iter_mut().enumerate() {
+        *word = low_word(book[REGISTERS_AT + j]);
     }
     let strtab_base = book[STRTAB_BASE_AT];
     Registers::from_words(&words, strtab_base)
 }
 
 // Refusal 6: the memory is not the one that the book was opened with.
-pub fn is_other(book: &[u64; BOOK_WORDS], base: u64, size: u64) -> bool
-    ensures { result ≡ other_extent book.now base size }
+#[tactic(auto, using(crate::proofs::WordsLaws::other_is))]
+pub fn is_other(book: &[u64; BOOK_WORDS], extent: Extent) -> bool
+    ensures { result ≡ other_extent book.now extent.base extent.length }
 {
-    !bit_fields::both(base == book[BASE_AT], size == book[LENGTH_AT])
+    extent != extent_of(book)
 }
 
-// The lowest slot below n with a key, or n.
+// Where the memory was lent that the book was opened with.
+pub fn extent_of(book: &[u64; BOOK_WORDS]) -> Extent
+    ensures { result ≡ extent_held book.now }
+{
+    Extent {
+        base: book[BASE_AT],
+        length: book[LENGTH_AT],
+    }
+}
+
+// The lowest slot below n with a key, or n, which its callers compare with their own slot. This crate's functions on a slot
+// ask that there is one: whoever calls them counts slots, and nothing outside the library can call them.
 pub fn first_from(book: &[u64; BOOK_WORDS], key: u64, n: usize) -> usize
     requires { n ≤ slots_most }
     ensures { (result ≡ first_from book.now key n 0) × (result ≤ n) }
 {
-    let mut i: usize = 0;
-    while i < n {
-        if book[KEYS + i] == key {
-            return i;
-        }
-        i += 1;
-    }
-    i
+    let keys = &book[KEYS..KEYS + n];
+    keys.iter().position(|held| *held == key).unwrap_or(n)
 }
 
-// The words that a slot keeps its answer in.
+// The words that a slot keeps its answer in. Word by word: a copy of slices is a call of memmove
+// after a test that they don't overlap, which made an ask half as slow again.
 pub fn block(book: &[u64; BOOK_WORDS], i: usize) -> [u64; ANSWER_WORDS]
     requires { i < slots_most }
     ensures { result ≡ block_at book.now i }
 {
     let b = BLOCKS + ANSWER_WORDS * i;
     let mut words = [0u64; ANSWER_WORDS];
-    let mut j: usize = 0;
-    while j < ANSWER_WORDS {
-        words[j] = book[b + j];
-        j += 1;
+    for (j, word) in words.iter_mut().enumerate() {
+        *word = book[b + j];
     }
     words
-}
-
-// Writes the words of a block from b on.
-fn copy(book: &mut [u64; BOOK_WORDS], b: usize, block: &[u64; ANSWER_WORDS])
-    requires { b + answer_words ≤ book_words }
-    ensures { book.new ≡ copied book.old b block.now answer_words 0 }
-{
-    let mut k: usize = 0;
-    while k < ANSWER_WORDS {
-        book[b + k] = block[k];
-        k += 1;
-    }
 }
 
 // Fills a slot with a key and a block.
@@ -125,5 +114,8 @@ pub fn keep_at(book: &mut [u64; BOOK_WORDS], i: usize, key: u64, block: &[u64; A
     ensures { book.new ≡ kept_at book.old i key block.now }
 {
     book[KEYS + i] = key;
-    copy(&mut *book, BLOCKS + ANSWER_WORDS * i, block);
+    let b = BLOCKS + ANSWER_WORDS * i;
+    for (k, word) in block.iter().enumerate() {
+        book[b + k] = *word;
+    }
 }

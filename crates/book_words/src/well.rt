@@ -5,11 +5,12 @@ ghost use Rattle.book_words.specs.Layout.{key_at, slots_most};
 ghost use Rattle.book_words.specs.Malformed.{first_from, refusal7, registers_fit, slot_well, well_from};
 ghost use Rattle.book_words.specs.Marks.{Marked, mark_of};
 
-use super::{BASE_AT, BOOK_WORDS, KEYS, LENGTH_AT, REGISTERS_AT, SLOTS_MOST};
-use ids::{Request, Unpacked};
+use super::{BOOK_WORDS, KEYS, REGISTERS_AT, SLOTS_MOST};
+use ids::Request;
 use registers::REGISTER_WORDS;
 
-// The marks of refusal 7's search for equal keys: sixteen places for each slot, so that few keys share one.
+// The marks of refusal 7's search for equal keys: sixteen places for each slot, so that few keys share one. With no marks
+// each slot's key would be looked for in all of them, at every ask.
 const MARKS: usize = 16 * SLOTS_MOST;
 
 // A key has its stream from bit 21 up.
@@ -19,14 +20,8 @@ const BELOW_STREAM: u64 = 1 << 21;
 fn registers_fit(book: &[u64; BOOK_WORDS]) -> bool
     ensures { result ≡ registers_fit book.now }
 {
-    let mut j: usize = 0;
-    while j < REGISTER_WORDS {
-        if !bit_fields::in_bits(book[REGISTERS_AT + j], 32) {
-            return false;
-        }
-        j += 1;
-    }
-    true
+    let words = &book[REGISTERS_AT..REGISTERS_AT + REGISTER_WORDS];
+    words.iter().all(|word| bit_fields::in_bits(*word, 32))
 }
 
 // A key's place among the marks: streams that follow one another have places of their own.
@@ -50,6 +45,7 @@ fn first_with(book: &[u64; BOOK_WORDS], i: usize, key: u64, marks: &[u8; MARKS])
 }
 
 // Whether a slot is empty or holds what a slot may.
+#[tactic(auto, using(crate::proofs::MalformedLaws::slot_empty, crate::proofs::MalformedLaws::slot_past, crate::proofs::MalformedLaws::slot_none, crate::proofs::MalformedLaws::slot_twice, crate::proofs::MalformedLaws::slot_answer))]
 fn slot_well(book: &[u64; BOOK_WORDS], i: usize, marks: &[u8; MARKS]) -> bool
     requires { (i < slots_most) × Marked book.now i marks.now }
     ensures { result ≡ slot_well book.now i }
@@ -62,8 +58,7 @@ fn slot_well(book: &[u64; BOOK_WORDS], i: usize, marks: &[u8; MARKS]) -> bool
     if slots <= i as u64 {
         return false;
     }
-    let request = Request::unpack(key - 1);
-    let Unpacked::Is(_) = request else {
+    let Some(_) = Request::unpack(key - 1) else {
         return false;
     };
     let first = first_with(book, i, key, marks);
@@ -79,14 +74,12 @@ fn slots_well(book: &[u64; BOOK_WORDS]) -> bool
     ensures { result ≡ well_from book.now slots_most 0 }
 {
     let mut marks = [0u8; MARKS];
-    let mut i: usize = 0;
-    while i < SLOTS_MOST {
+    for i in 0..SLOTS_MOST {
         if !slot_well(book, i, &marks) {
             return false;
         }
         let place = mark_of(book[KEYS + i]);
         marks[place] = 1;
-        i += 1;
     }
     true
 }
@@ -105,11 +98,10 @@ pub fn is_malformed(book: &[u64; BOOK_WORDS]) -> bool
     if !registers_fit(book) {
         return true;
     }
-    let registers = super::registers_of(book);
-    if registers.refused() {
+    if super::registers_of(book).refused() {
         return true;
     }
-    if memory_image::refused(book[BASE_AT], book[LENGTH_AT]) {
+    if super::extent_of(book).refused() {
         return true;
     }
     !slots_well(book)

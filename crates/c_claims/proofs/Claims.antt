@@ -1,5 +1,9 @@
 -- The claims of specs/Claims.antt, each under its own name.
 -- Assumes: nothing.
+use Rattle.std.specs.Prelude.{Err, None, Ok, Option, Result, Some, ⊤}
+use Rattle.answers.specs.Refusals.{refusal_number}
+use Rattle.answers.specs.declared.refusals.Refusal.{Refusal}
+use Rattle.answers.specs.declared.Outcome.{Outcome}
 use Prim.Native.Nat.{ℕ, ◌+◌, ◌≤◌}
 use native.Mathlib.Omega.{arith}
 use mathlib.Core.Path.{◌≡◌, refl, sym, ◌∙◌}
@@ -8,24 +12,16 @@ use mathlib.Core.Logic.{◌⊎◌, inl, inr}
 use lib.ListN.{length}
 use Rattle.ids.specs.declared.Request.{Request}
 use Rattle.registers.specs.declared.Registers.{Registers}
-use Rattle.memory_image.specs.Extent.{Extent}
-use Rattle.lookup.specs.declared.part.Reached.{Reached}
-use Rattle.lookup.specs.declared.part.Reached.TheVariants.{At, Nowhere}
+use Rattle.memory_image.specs.declared.Extent.{Extent}
 use Rattle.lookup.specs.Lookup.{looked_up, answer_says}
 use Rattle.lookup.specs.Part.{ste_at}
-use Rattle.lookup.specs.declared.Answer.{Answer}
-use Rattle.lookup.specs.declared.Answer.TheVariants as answer
 use Rattle.lookup.proofs.PartLaws.{ste_inside}
 use Rattle.book.specs.Book.{open_says, notice_says}
 use Rattle.book.specs.Into.{asked, ask_says}
 use Rattle.book.specs.declared.Reply.{Reply}
 use Rattle.book.specs.declared.Reply.TheVariants as reply
-use Rattle.book.specs.declared.Said.{Said}
-use Rattle.book.specs.declared.Said.TheVariants as said
 use Rattle.placed.specs.Placed.{placed}
 use Rattle.report.specs.Report.{if_written, report_says, report_text}
-use Rattle.report.specs.declared.Written.{Written}
-use Rattle.report.specs.declared.Written.TheVariants as written
 use Rattle.book_history.specs.Demand1.{OneOf2, OneOf3}
 use Rattle.book_history.proofs.Demand1.{answer_or_number}
 use Rattle.llobatelh.specs.Calls.{no_part, part_says, said_says, written_says, OpensBook, NoticesBook}
@@ -58,61 +54,61 @@ module _ (r : Registers) (base : ℕ) (memory : List ℕ) (request : Request) (s
   unfolding answer_says
   look_says is = go (looked_up r base memory request).answer refl is
     where
-      go : (a : Answer) → (looked_up r base memory request).answer ≡ a → says ≡ answer_says a → (says ≡ 0) ⊎ OneOf3 1 2 3 says
-      go (answer.Refused n) told is = inr (rw is ((answer_or_number n).by_lookup r base memory request told))
-      go (answer.Is outcome) told is = inl is
+      go : (a : Result Outcome Refusal) → (looked_up r base memory request).answer ≡ a → says ≡ answer_says a → (says ≡ 0) ⊎ OneOf3 1 2 3 says
+      go (Err n) told is = inr (rw is ((answer_or_number n).by_lookup r base memory request told))
+      go (Ok outcome) told is = inl is
 
 module _ (r : Registers) (e : Extent) (slots : ℕ) (before after : List ℕ) where
   open_says_lem : (says : ℕ) → OpensBook r e slots before says after → (says ≡ 0) ⊎ OneOf3 1 2 4 says
   unfolding said_says
   open_says_lem says promise = go (open_says r e slots) refl promise.result
     where
-      go : (told : Said) → open_says r e slots ≡ told → says ≡ said_says told → (says ≡ 0) ⊎ OneOf3 1 2 4 says
-      go (said.Refused n) told is = inr (rw is ((answer_or_number n).opened r e slots before after (record { result = sym told; book = promise.book })))
-      go said.Done told is = inl is
+      go : (told : Result ⊤ Refusal) → open_says r e slots ≡ told → says ≡ said_says told → (says ≡ 0) ⊎ OneOf3 1 2 4 says
+      go (Err n) told is = inr (rw is ((answer_or_number n).opened r e slots before after (record { result = sym told; book = promise.book })))
+      go (Ok done) told is = inl is
 
-  open_zero : OpensBook r e slots before 0 after → open_says r e slots ≡ said.Done
+  open_zero : OpensBook r e slots before 0 after → open_says r e slots ≡ Ok tt
   unfolding said_says
   open_zero promise = go (open_says r e slots) refl promise.result
     where
       none : (n : ℕ) → 0 ≡ n → OneOf3 1 2 4 n → ⊥
       none n is one = not_zero3 1 2 4 n (λ e. omega arith) (λ e. omega arith) (λ e. omega arith) is one
 
-      go : (told : Said) → open_says r e slots ≡ told → 0 ≡ said_says told → told ≡ said.Done
-      go (said.Refused n) told is = absurd (none n is ((answer_or_number n).opened r e slots before after (record { result = sym told; book = promise.book })))
-      go said.Done told is = refl
+      go : (told : Result ⊤ Refusal) → open_says r e slots ≡ told → 0 ≡ said_says told → told ≡ Ok tt
+      go (Err n) told is = absurd (none (refusal_number n) is ((answer_or_number n).opened r e slots before after (record { result = sym told; book = promise.book })))
+      go (Ok done) told is = refl
 
 module _ (ws : List ℕ) (begin size : ℕ) (after : List ℕ) where
   notice_says_lem : (says : ℕ) → NoticesBook ws begin size says after → (says ≡ 0) ⊎ OneOf2 7 5 says
   unfolding said_says
   notice_says_lem says promise = go (notice_says ws begin size) refl promise.result
     where
-      go : (told : Said) → notice_says ws begin size ≡ told → says ≡ said_says told → (says ≡ 0) ⊎ OneOf2 7 5 says
-      go (said.Refused n) told is = inr (rw is ((answer_or_number n).noticed ws begin size after (record { result = sym told; book = promise.book })))
-      go said.Done told is = inl is
+      go : (told : Result ⊤ Refusal) → notice_says ws begin size ≡ told → says ≡ said_says told → (says ≡ 0) ⊎ OneOf2 7 5 says
+      go (Err n) told is = inr (rw is ((answer_or_number n).noticed ws begin size after (record { result = sym told; book = promise.book })))
+      go (Ok done) told is = inl is
 
-  notice_zero : NoticesBook ws begin size 0 after → notice_says ws begin size ≡ said.Done
+  notice_zero : NoticesBook ws begin size 0 after → notice_says ws begin size ≡ Ok tt
   unfolding said_says
   notice_zero promise = go (notice_says ws begin size) refl promise.result
     where
       none : (n : ℕ) → 0 ≡ n → OneOf2 7 5 n → ⊥
       none n is one = not_zero2 7 5 n (λ e. omega arith) (λ e. omega arith) is one
 
-      go : (told : Said) → notice_says ws begin size ≡ told → 0 ≡ said_says told → told ≡ said.Done
-      go (said.Refused n) told is = absurd (none n is ((answer_or_number n).noticed ws begin size after (record { result = sym told; book = promise.book })))
-      go said.Done told is = refl
+      go : (told : Result ⊤ Refusal) → notice_says ws begin size ≡ told → 0 ≡ said_says told → told ≡ Ok tt
+      go (Err n) told is = absurd (none (refusal_number n) is ((answer_or_number n).noticed ws begin size after (record { result = sym told; book = promise.book })))
+      go (Ok done) told is = refl
 
 module _ (ws : List ℕ) (base : ℕ) (memory : List ℕ) (request : Request) (says : ℕ) where
   ask_says_lem : says ≡ ask_says (asked ws base memory request).reply → OneOf3 100 101 102 says ⊎ OneOf3 7 6 3 says
   unfolding ask_says
   ask_says_lem is = go (asked ws base memory request).reply refl is
     where
-      go : (told : Reply) → (asked ws base memory request).reply ≡ told → says ≡ ask_says told → OneOf3 100 101 102 says ⊎ OneOf3 7 6 3 says
-      go (reply.Refused n) told is =
+      go : (told : Result Reply Refusal) → (asked ws base memory request).reply ≡ told → says ≡ ask_says told → OneOf3 100 101 102 says ⊎ OneOf3 7 6 3 says
+      go (Err n) told is =
           inr (rw is ((answer_or_number n).asked_for ws base memory request (asked ws base memory request) _ (record { result = refl; book = refl }) told))
-      go (reply.KeptBefore outcome) told is = inl (inl is)
-      go (reply.NewlyKept outcome) told is = inl (inr (inl is))
-      go (reply.NotKept outcome) told is = inl (inr (inr is))
+      go (Ok (reply.KeptBefore outcome)) told is = inl (inl is)
+      go (Ok (reply.NewlyKept outcome)) told is = inl (inr (inl is))
+      go (Ok (reply.NotKept outcome)) told is = inl (inr (inr is))
 
 report_says_lem :
     (ws before after : List ℕ) (says : ℕ) → says ≡ written_says (report_says ws (length before))
@@ -120,9 +116,9 @@ report_says_lem :
 unfolding written_says
 report_says_lem ws before after says result buffer = go (report_says ws (length before)) refl result
   where
-    go : (told : Written) → report_says ws (length before) ≡ told → says ≡ written_says told → (says ≡ 0) ⊎ OneOf2 7 8 says
-    go (written.Refused n) told is = inr (rw is ((answer_or_number n).reported ws before after (record { result = sym told; buffer = buffer })))
-    go (written.Length n) told is = inl is
+    go : (told : Result ℕ Refusal) → report_says ws (length before) ≡ told → says ≡ written_says told → (says ≡ 0) ⊎ OneOf2 7 8 says
+    go (Err n) told is = inr (rw is ((answer_or_number n).reported ws before after (record { result = sym told; buffer = buffer })))
+    go (Ok n) told is = inl is
 
 pub numbers_in_c : NumbersInC
 unfolding written_says answer_says
@@ -138,10 +134,10 @@ numbers_in_c =
       zero_noticed = λ ws begin size after promise.
           record { result = sym (notice_zero ws begin size after promise); book = promise.book };
       zero_reported = λ ws before length_before after length_after promise n refused.
-          not_zero2 7 8 n (λ e. omega arith) (λ e. omega arith) (promise.result ∙ rw (← refused.result))
+          not_zero2 7 8 (refusal_number n) (λ e. omega arith) (λ e. omega arith) (promise.result ∙ rw (← refused.result))
           ((answer_or_number n).reported ws before after refused);
       zero_looked_up = λ r base memory request before after promise n refused.
-          not_zero3 1 2 3 n (λ e. omega arith) (λ e. omega arith) (λ e. omega arith) (promise.result ∙ rw refused)
+          not_zero3 1 2 3 (refusal_number n) (λ e. omega arith) (λ e. omega arith) (λ e. omega arith) (promise.result ∙ rw refused)
           ((answer_or_number n).by_lookup r base memory request refused);
     }
 
@@ -150,11 +146,11 @@ pub part_lies : PartLies
 unfolding part_says
 part_lies r base memory request some = go (ste_at r base memory request) refl some
   where
-    go : (at : Reached) → ste_at r base memory request ≡ at → (part_says at ≡ no_part → ⊥) → part_says (ste_at r base memory request) + 64 ≤ length memory
-    go (At place) is some = rw is (ste_inside r base memory request refl is)
-    go Nowhere is some = absurd (some refl)
+    go : (at : Option ℕ) → ste_at r base memory request ≡ at → (part_says at ≡ no_part → ⊥) → part_says (ste_at r base memory request) + 64 ≤ length memory
+    go (Some place) is some = rw is (ste_inside r base memory request refl is)
+    go None is some = absurd (some refl)
 
 pub part_is_that_very : PartIsThatVery
 unfolding part_says
-part_is_that_very memory part (At place) handed some = (handed.contents, handed.block, handed.offset)
-part_is_that_very memory part Nowhere handed some = absurd (some refl)
+part_is_that_very memory part (Some place) handed some = (handed.contents, handed.block, handed.offset)
+part_is_that_very memory part None handed some = absurd (some refl)

@@ -1,10 +1,10 @@
 -- What follows from the claims: specs/Uses.antt, each from the claims that it names.
 -- Assumes: nothing.
+use Rattle.std.specs.Prelude.{None, Some}
 use Prim.Native.Nat.{ℕ}
 use native.Mathlib.Omega.{arith}
 use mathlib.Core.Path.{◌≡◌, refl, sym, ap, ◌∙◌}
 use lib.ListN.{length, take, drop, length-take, length-drop}
-use Rattle.ids.specs.declared.Substream.TheVariants.{Without, With}
 use Rattle.answer_words.specs.AnswerWords.{words_of, own_event, outcome_of}
 use Rattle.answers.specs.Outcome.{fetch_event}
 use Rattle.answers.specs.declared.Outcome.TheVariants.{Abort, Bypass}
@@ -88,6 +88,6 @@ unfolding answer_says answer_put
 given_counts before x y after other a b =
     let first = none_is_not_zero.0 in
     let second = none_is_not_zero.1 in
-    let one : after ≡ words_of (Bypass 0) (looked_up small_registers 0 small_memory (stream_zero Without)).list = a.words ∙ rw first in
-    let two : other ≡ words_of (Abort 8) (looked_up small_registers 0 small_memory (stream_zero (With (record { number = 0 })))).list = b.words ∙ rw second in
+    let one : after ≡ words_of (Bypass 0) (looked_up small_registers 0 small_memory (stream_zero None)).list = a.words ∙ rw first in
+    let two : other ≡ words_of (Abort 8) (looked_up small_registers 0 small_memory (stream_zero (Some (record { number = 0 })))).list = b.words ∙ rw second in
     (a.result ∙ rw first, b.result ∙ rw second, λ same. apart _ _ (sym one ∙ same ∙ two))

@@ -6,12 +6,11 @@
 --     PartOfEach      PartLies, PartIsThatVery, OnePart: two parts handed back for one input are the same 64 bytes at the same place
 --     GivenCounts     NoneIsNotZero: on small tables, `given` 0 and `given` 1 with SubstreamID 0 put different words
 -- Assumes: nothing.
-use Rattle.std.specs.Prelude.{ℕ, ◌<◌, ◌≡◌, List, get_or, length}
+use Rattle.std.specs.Prelude.{ℕ, ◌<◌, ◌≡◌, List, get_or, length, None, Some}
 use Rattle.std.specs.Borrow.{Bor}
 use Rattle.ids.specs.declared.Request.{Request}
-use Rattle.ids.specs.declared.Substream.TheVariants.{Without, With}
 use Rattle.registers.specs.declared.Registers.{Registers}
-use Rattle.memory_image.specs.Extent.{Extent}
+use Rattle.memory_image.specs.declared.Extent.{Extent}
 use Rattle.lookup_claims.specs.Claims.{small_registers, small_memory, stream_zero}
 use Rattle.lookup.specs.Lookup.{looked_up, LooksUp}
 use Rattle.lookup.specs.Part.{SteHanded, ste_at}
@@ -58,6 +57,6 @@ PartOfEach =
 abbrev pub GivenCounts : Type 0
 GivenCounts =
     (before : List ℕ) (x y : ℕ) (after other : List ℕ)
-    → LooksUp (looked_up small_registers 0 small_memory (stream_zero Without)) before x after
-    → LooksUp (looked_up small_registers 0 small_memory (stream_zero (With (record { number = 0 })))) before y other
+    → LooksUp (looked_up small_registers 0 small_memory (stream_zero None)) before x after
+    → LooksUp (looked_up small_registers 0 small_memory (stream_zero (Some (record { number = 0 })))) before y other
     → (x ≡ 0) × (y ≡ 0) × (after ≡ other → ⊥)

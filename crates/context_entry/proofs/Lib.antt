@@ -1,3 +1,2 @@
 -- Laws of specs/ContextEntry.antt.
-pub mod HalfLaws
 pub mod EntryLaws

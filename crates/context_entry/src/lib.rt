@@ -1,18 +1,21 @@
-// What a CD says. Start at `read_cd`.
-// Meets specs/ContextEntry.antt; the CD is handed over as its place in the memory, and its fields are in fields.rt.
+// What a CD says. Start at `read_cd`. It is compiled into its one caller, which has tested where the CD lies: by itself it would
+// test that again at each word.
+// Meets specs/ContextEntry.antt; a CD and its fields are in fields.rt.
 #![tactic(auto)]
 
 ghost use Rattle.std.specs.Prelude.{◌≡◌};
-ghost use Rattle.memory_image.specs.Words.{word_of};
+ghost use Rattle.memory_image.specs.Descriptor.{descriptor_words};
 ghost use Rattle.context_entry.specs.ContextEntry.{cd_rule, effective_ips, first_half, granule0, granule_there, half_fits, translated, vmsa32_rule};
 
 use answers::{Outcome, Translation};
-use bit_fields::{field, in_bits, smaller};
+use bit_fields::{field, in_bits};
+use fields::Cd;
 use registers::Registers;
 
 pub mod fields;
 
-// The size of a page of tables.
+// The size of a page of tables. TG0 has a code that means none, and a CD with it is bad only where its half is used: so it
+// is a value like the others.
 #[derive(Clone, Copy)]
 pub enum Granule {
     Size4K,
@@ -30,6 +33,7 @@ pub struct Half {
 }
 
 // TG0's coding.
+#[tactic(auto, unfolding(crate::specs::ContextEntry::granule0))]
 fn granule_of(code: u64) -> Granule
     ensures { result ≡ granule0 code }
 {
@@ -42,6 +46,7 @@ fn granule_of(code: u64) -> Granule
 }
 
 // Whether IDR5 has a granule.
+#[tactic(auto, unfolding(crate::specs::ContextEntry::granule_there))]
 fn granule_there(registers: Registers, granule: Granule) -> bool
     ensures { result ≡ granule_there registers granule }
 {
@@ -54,6 +59,8 @@ fn granule_there(registers: Registers, granule: Granule) -> bool
 }
 
 // The effective IPS, in bits.
+#[tactic(auto, unfolding(crate::specs::ContextEntry::effective_ips))]
+#[inline(always)]
 fn effective_ips(registers: Registers, code: u64) -> u64
     ensures { result ≡ effective_ips registers code }
 {
@@ -61,15 +68,16 @@ fn effective_ips(registers: Registers, code: u64) -> u64
     if code == 7 {
         return oas;
     }
-    smaller(registers::size_of(code), oas)
+    registers::size_of(code).min(oas)
 }
 
 // The granule and range rule, of either half.
+#[tactic(auto, unfolding(crate::specs::ContextEntry::half_fits))]
+#[inline(always)]
 fn half_fits(registers: Registers, bits: u64, half: Half) -> bool
     ensures { result ≡ half_fits registers bits half }
 {
-    let granule = half.granule;
-    if !granule_there(registers, granule) {
+    if !granule_there(registers, half.granule) {
         return false;
     }
     if half.tsz < 16 {
@@ -82,38 +90,36 @@ fn half_fits(registers: Registers, bits: u64, half: Half) -> bool
 }
 
 // The half of the address space that TTB0 is for.
-fn first_half(memory: &[u8], place: usize) -> Half
-    ensures { result ≡ first_half (word_of memory.now place) }
+#[inline(always)]
+fn first_half(cd: Cd) -> Half
+    ensures { result ≡ first_half (descriptor_words cd.entry.descriptor) }
 {
-    let granule = granule_of(fields::tg0(memory, place));
-    let tsz = fields::t0sz(memory, place);
-    let ttb = fields::ttb0(memory, place);
-    Half { granule, tsz, ttb }
+    Half {
+        granule: granule_of(cd.tg0()),
+        tsz: cd.t0sz(),
+        ttb: cd.ttb0(),
+    }
 }
 
-// An accepted CD's fields.
-fn translation(registers: Registers, ste: u64, cd: u64, memory: &[u8], place: usize) -> Translation
-    ensures { result ≡ translated registers ste cd (word_of memory.now place) }
+// An accepted CD's fields, with where it and its STE were found.
+#[inline(always)]
+fn translation(registers: Registers, ste: u64, address: u64, cd: Cd) -> Translation
+    ensures { result ≡ translated registers ste address (descriptor_words cd.entry.descriptor) }
 {
-    let asid = fields::asid(memory, place);
-    let t0sz = fields::t0sz(memory, place);
-    let tg0 = fields::tg0(memory, place);
-    let epd0 = fields::epd0(memory, place);
-    let ips = effective_ips(registers, fields::ips(memory, place));
-    let ttb0 = fields::ttb0(memory, place);
     Translation {
         ste,
-        cd,
-        asid,
-        t0sz,
-        tg0,
-        epd0,
-        ips,
-        ttb0,
+        cd: address,
+        asid: cd.asid(),
+        t0sz: cd.t0sz(),
+        tg0: cd.tg0(),
+        epd0: cd.epd0(),
+        ips: effective_ips(registers, cd.ips()),
+        ttb0: cd.ttb0(),
     }
 }
 
 // AA64 0.
+#[tactic(auto, unfolding(crate::specs::ContextEntry::vmsa32_rule))]
 fn vmsa_32(registers: Registers) -> Outcome
     ensures { result ≡ vmsa32_rule registers }
 {
@@ -124,26 +130,26 @@ fn vmsa_32(registers: Registers) -> Outcome
     }
 }
 
-// What the CD at an address, and at a place of the memory, says for the STE at another address.
-pub fn read_cd(registers: Registers, ste: u64, cd: u64, memory: &[u8], place: usize) -> Outcome
-    ensures { result ≡ cd_rule registers ste cd (word_of memory.now place) }
+// What the CD at an address says for the STE at another.
+#[tactic(auto, unfolding(crate::specs::ContextEntry::cd_rule))]
+#[inline(always)]
+pub fn read_cd(registers: Registers, ste: u64, address: u64, cd: Cd) -> Outcome
+    ensures { result ≡ cd_rule registers ste address (descriptor_words cd.entry.descriptor) }
 {
-    if fields::v(memory, place) == 0 {
+    if cd.v() == 0 {
         return Outcome::Abort(answers::C_BAD_CD);
     }
-    if fields::aa64(memory, place) == 0 {
+    if cd.aa64() == 0 {
         return vmsa_32(registers);
     }
     if field(registers.ttf(), 1, 1) == 0 {
         return Outcome::Abort(answers::C_BAD_CD);
     }
-    let found = translation(registers, ste, cd, memory, place);
-    if fields::epd0(memory, place) == 1 {
+    let found = translation(registers, ste, address, cd);
+    if cd.epd0() == 1 {
         return Outcome::Translate(found);
     }
-    let half = first_half(memory, place);
-    let bits = found.ips;
-    if half_fits(registers, bits, half) {
+    if half_fits(registers, found.ips, first_half(cd)) {
         return Outcome::Translate(found);
     }
     Outcome::Abort(answers::C_BAD_CD)

@@ -4,22 +4,20 @@
 --     OneWordEach           a word that stands for a request is that request's own, and the request is proper
 --     NoneIsNotZero         without a SubstreamID and with SubstreamID 0 are two requests, with two words
 -- Assumes: nothing.
-use Rattle.std.specs.Prelude.{ℕ, ◌≡◌}
+use Rattle.std.specs.Prelude.{ℕ, ◌≡◌, None, Some}
 use Rattle.ids.specs.Packing.{packed, unpacked, request_of, Proper}
 use Rattle.ids.specs.declared.Request.{Request}
-use Rattle.ids.specs.declared.Substream.TheVariants.{Without, With}
-use Rattle.ids.specs.declared.Unpacked.TheVariants.{Is}
 
 abbrev pub PackingLosesNothing : Type 0
-PackingLosesNothing = (request : Request) → Proper request → unpacked (packed request) ≡ Is request
+PackingLosesNothing = (request : Request) → Proper request → unpacked (packed request) ≡ Some request
 
 abbrev pub EqualWordsOnly : Type 0
 EqualWordsOnly = (q r : Request) → Proper q → Proper r → packed q ≡ packed r → q ≡ r
 
 abbrev pub OneWordEach : Type 0
 OneWordEach =
-    (word : ℕ) (request : Request) → unpacked word ≡ Is request → (packed request ≡ word) × Proper request
+    (word : ℕ) (request : Request) → unpacked word ≡ Some request → (packed request ≡ word) × Proper request
 
 abbrev pub NoneIsNotZero : Type 0
 NoneIsNotZero =
-    (stream : ℕ) → packed (request_of stream Without) ≡ packed (request_of stream (With (record { number = 0 }))) → ⊥
+    (stream : ℕ) → packed (request_of stream None) ≡ packed (request_of stream (Some (record { number = 0 }))) → ⊥

@@ -3,13 +3,9 @@
 --     made_stream, made_substream      what the constructors answer
 --     refusal3                         a request that is refused with 3
 -- Assumes: nothing.
-use Rattle.std.specs.Prelude.{ℕ, ◌^◌, Bool, false, ltb, leb, if◌then◌else◌}
-use Rattle.ids.specs.declared.MadeStream.{MadeStream}
-use Rattle.ids.specs.declared.MadeStream.TheVariants as stream
-use Rattle.ids.specs.declared.MadeSubstream.{MadeSubstream}
-use Rattle.ids.specs.declared.MadeSubstream.TheVariants as substream
-use Rattle.ids.specs.declared.Substream.{Substream}
-use Rattle.ids.specs.declared.Substream.TheVariants.{Without, With}
+use Rattle.std.specs.Prelude.{ℕ, ◌^◌, Bool, false, ltb, leb, if◌then◌else◌, None, Option, Some}
+use Rattle.ids.specs.declared.SubstreamId.{SubstreamId}
+use Rattle.ids.specs.declared.StreamId.{StreamId}
 use Rattle.ids.specs.declared.Request.{Request}
 
 -- a StreamID has 32 bits
@@ -20,20 +16,20 @@ stream_bits = 32
 abbrev pub substream_bits : ℕ
 substream_bits = 20
 
-unfoldable pub made_stream : ℕ → MadeStream
+unfoldable pub made_stream : ℕ → Option StreamId
 made_stream n =
-    if ltb n (2 ^ stream_bits) then stream.Made (record { number = n })
-    else stream.TooLarge
+    if ltb n (2 ^ stream_bits) then Some (record { number = n })
+    else None
 
-unfoldable pub made_substream : ℕ → MadeSubstream
+unfoldable pub made_substream : ℕ → Option SubstreamId
 made_substream n =
-    if ltb n (2 ^ substream_bits) then substream.Made (record { number = n })
-    else substream.TooLarge
+    if ltb n (2 ^ substream_bits) then Some (record { number = n })
+    else None
 
 -- a SubstreamID is given and is 2^20 or more
-abbrev pub too_large : Substream → Bool
-too_large Without = false
-too_large (With s) = leb (2 ^ substream_bits) s.number
+abbrev pub too_large : Option SubstreamId → Bool
+too_large None = false
+too_large (Some s) = leb (2 ^ substream_bits) s.number
 
 unfoldable pub refusal3 : Request → Bool
 refusal3 request = too_large request.substream

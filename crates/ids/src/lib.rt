@@ -21,30 +21,18 @@ pub struct SubstreamId {
     pub number: u64,
 }
 
-#[derive(Clone, Copy)]
-pub enum MadeStream {
-    Made(StreamId),
-    TooLarge,
-}
-
-#[derive(Clone, Copy)]
-pub enum MadeSubstream {
-    Made(SubstreamId),
-    TooLarge,
-}
-
 impl StreamId {
     pub const BITS: u64 = 32;
 
-    // The id with that number, if it has no more than 32 bits.
-    pub fn new(n: u64) -> MadeStream
+    // The id with that number, if it has no more than 32 bits: an `Option`, since a number has one way to be wrong.
+    #[tactic(auto, unfolding(crate::specs::Ids::made_stream))]
+    pub fn new(n: u64) -> Option<StreamId>
         ensures { result ≡ made_stream n }
     {
         if n < 1 << StreamId::BITS {
-            let number = n as u32;
-            MadeStream::Made(StreamId { number })
+            Some(StreamId { number: n as u32 })
         } else {
-            MadeStream::TooLarge
+            None
         }
     }
 }
@@ -52,36 +40,24 @@ impl StreamId {
 impl SubstreamId {
     pub const BITS: u64 = 20;
 
-    // The id with that number, if it has no more than 20 bits.
-    pub fn new(n: u64) -> MadeSubstream
+    // The id with that number, if it has no more than 20 bits; by itself, since the two ids are two types.
+    #[tactic(auto, unfolding(crate::specs::Ids::made_substream))]
+    pub fn new(n: u64) -> Option<SubstreamId>
         ensures { result ≡ made_substream n }
     {
         if n < 1 << SubstreamId::BITS {
-            MadeSubstream::Made(SubstreamId { number: n })
+            Some(SubstreamId { number: n })
         } else {
-            MadeSubstream::TooLarge
+            None
         }
     }
 }
 
 // A request comes with a SubstreamID or without one: SubstreamID 0 and none are different requests.
 #[derive(Clone, Copy)]
-pub enum Substream {
-    Without,
-    With(SubstreamId),
-}
-
-#[derive(Clone, Copy)]
 pub struct Request {
     pub stream: StreamId,
-    pub substream: Substream,
-}
-
-// What a word stands for: a request, or none.
-#[derive(Clone, Copy)]
-pub enum Unpacked {
-    Is(Request),
-    Nothing,
+    pub substream: Option<SubstreamId>,
 }
 
 // One more than the width of a SubstreamID: the part of the word below the StreamID.
@@ -89,25 +65,25 @@ const PART_BITS: u64 = 21;
 
 impl Request {
     // Refusal 3: a SubstreamID is given and is 2^20 or more.
+    #[tactic(auto, unfolding(crate::specs::Ids::refusal3))]
     pub fn refused(self) -> bool
         ensures { result ≡ refusal3 self }
     {
-        let substream = self.substream;
-        match substream {
-            Substream::Without => false,
-            Substream::With(id) => 1 << SubstreamId::BITS <= id.number,
+        match self.substream {
+            None => false,
+            Some(id) => 1 << SubstreamId::BITS <= id.number,
         }
     }
 
     // The request as one word. Nothing of a request that is not refused is lost.
+    #[tactic(auto, unfolding(crate::specs::Packing::packed))]
     pub fn pack(self) -> u64
         ensures { result ≡ packed self }
     {
-        let substream = self.substream;
         let above = self.stream.number as u64 * (1 << PART_BITS);
-        match substream {
-            Substream::Without => above,
-            Substream::With(id) => {
+        match self.substream {
+            None => above,
+            Some(id) => {
                 let number = bit_fields::low(id.number, SubstreamId::BITS);
                 above + ((1 << SubstreamId::BITS) + number)
             }
@@ -115,30 +91,33 @@ impl Request {
     }
 
     // The request that a word stands for, if any.
-    pub fn unpack(word: u64) -> Unpacked
+    #[tactic(auto, unfolding(crate::specs::Packing::unpacked))]
+    pub fn unpack(word: u64) -> Option<Request>
         ensures { result ≡ unpacked word }
     {
         if 1 << (StreamId::BITS + PART_BITS) <= word {
-            return Unpacked::Nothing;
+            return None;
         }
         let above = bit_fields::high(word, PART_BITS);
         let part = bit_fields::low(word, PART_BITS);
-        let number = above as u32;
-        let stream = StreamId { number };
+        let stream = StreamId {
+            number: above as u32,
+        };
         if part == 0 {
-            return Unpacked::Is(Request {
+            return Some(Request {
                 stream,
-                substream: Substream::Without,
+                substream: None,
             });
         }
         if part < 1 << SubstreamId::BITS {
-            return Unpacked::Nothing;
+            return None;
         }
-        let below = part - (1 << SubstreamId::BITS);
-        let id = SubstreamId { number: below };
-        Unpacked::Is(Request {
+        let id = SubstreamId {
+            number: part - (1 << SubstreamId::BITS),
+        };
+        Some(Request {
             stream,
-            substream: Substream::With(id),
+            substream: Some(id),
         })
     }
 }

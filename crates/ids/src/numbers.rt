@@ -1,18 +1,17 @@
-// A request as numbers, as a C caller hands it over, and back. Meets specs/Numbers.antt.
+// A request as numbers, as a C caller hands it over, and back: C has no `Option`. Meets specs/Numbers.antt.
 ghost use Rattle.std.specs.Prelude.{◌≡◌};
 ghost use Rattle.ids.specs.Numbers.{given_of, number_of, request_from, substream_from};
 
-use super::{Request, StreamId, Substream, SubstreamId};
+use super::{Request, StreamId, SubstreamId};
 
 // A SubstreamID is given where `given` is any number but 0.
-fn substream_from(given: u8, number: u64) -> Substream
+fn substream_from(given: u8, number: u64) -> Option<SubstreamId>
     ensures { result ≡ substream_from given number }
 {
     if given == 0 {
-        return Substream::Without;
+        return None;
     }
-    let id = SubstreamId { number };
-    Substream::With(id)
+    Some(SubstreamId { number })
 }
 
 impl super::Request {
@@ -20,11 +19,9 @@ impl super::Request {
     pub fn from_numbers(stream: u32, given: u8, number: u64) -> Request
         ensures { result ≡ request_from stream given number }
     {
-        let id = StreamId { number: stream };
-        let substream = substream_from(given, number);
         Request {
-            stream: id,
-            substream,
+            stream: StreamId { number: stream },
+            substream: substream_from(given, number),
         }
     }
 
@@ -32,10 +29,9 @@ impl super::Request {
     pub fn given(self) -> u8
         ensures { result ≡ given_of self.substream }
     {
-        let substream = self.substream;
-        match substream {
-            Substream::Without => 0,
-            Substream::With(_) => 1,
+        match self.substream {
+            None => 0,
+            Some(_) => 1,
         }
     }
 
@@ -43,10 +39,9 @@ impl super::Request {
     pub fn number(self) -> u64
         ensures { result ≡ number_of self.substream }
     {
-        let substream = self.substream;
-        match substream {
-            Substream::Without => 0,
-            Substream::With(id) => id.number,
+        match self.substream {
+            None => 0,
+            Some(id) => id.number,
         }
     }
 }

@@ -1,47 +1,92 @@
-// Text put into a lent buffer from a place on. Each function answers the place after what it put;
-// where the buffer is full, nothing more is put and the place stays.
+// Text in a lent buffer. Start at `Text`. Meets specs/Text.antt.
+ghost use Rattle.std.specs.Prelude.{◌≡◌, ◌+◌, [], ◌∷◌, ◌++◌, length, take};
+ghost use Rattle.lines.specs.Text.{filled_of, room_of};
 
-// One byte.
-pub fn byte(out: &mut [u8], at: usize, put: u8) -> usize {
-    if at < out.len() {
-        out[at] = put;
-        return at + 1;
+use std::fmt;
+
+// The text is the buffer's first `filled` bytes. Where the buffer is full, nothing more is put.
+#[derive(Drop)]
+pub struct Text<'a> {
+    buffer: &'a mut [u8],
+    filled: usize,
+}
+
+impl<'a> Text<'a> {
+    // No text.
+    pub fn new(buffer: &'a mut [u8]) -> Self
+        ensures { (filled_of result ≡ []) × (result.buffer.now ≡ buffer.old) }
+    {
+        Text { buffer, filled: 0 }
     }
-    at
-}
 
-// Some bytes.
-pub fn bytes(out: &mut [u8], at: usize, put: &[u8]) -> usize {
-    let mut to = at;
-    let mut i: usize = 0;
-    while i < put.len() {
-        to = byte(out, to, put[i]);
-        i += 1;
+    // The bytes so far.
+    pub fn filled(&self) -> &[u8]
+        ensures { result.now ≡ filled_of self.now }
+    {
+        &self.buffer[..self.end()]
     }
-    to
+
+    // How many bytes there is room for.
+    pub fn room(&self) -> usize
+        ensures { result ≡ room_of self.now }
+    {
+        self.buffer.len() - self.end()
+    }
+
+    // The buffer after the text, for whoever writes there and then calls `advance`.
+    pub fn rest(&mut self) -> &mut [u8]
+        ensures { length result.now ≡ room_of self.old }
+    {
+        let end = self.end();
+        &mut self.buffer[end..]
+    }
+
+    // So many bytes of the rest are text now.
+    pub fn advance(&mut self, n: usize)
+        ensures { filled_of self.new ≡ take (length (filled_of self.old) + n) self.old.buffer.now }
+    {
+        self.filled = self.end().saturating_add(n);
+    }
+
+    // No text any more.
+    pub fn clear(&mut self)
+        ensures { filled_of self.new ≡ [] }
+    {
+        self.filled = 0;
+    }
+
+    // Where the rest begins: at the end of the text.
+    fn end(&self) -> usize
+        ensures { result ≡ length (filled_of self.now) }
+    {
+        self.filled.min(self.buffer.len())
+    }
+
+    // Some bytes, or those of them that there is room for.
+    pub fn put(&mut self, bytes: &[u8])
+        ensures { filled_of self.new ≡ take (length self.old.buffer.now) (filled_of self.old ++ bytes.now) }
+    {
+        let start = self.end();
+        let n = bytes.len().min(self.room());
+        let end = start + n;
+        self.buffer[start..end].copy_from_slice(&bytes[..n]);
+        self.filled = end;
+    }
+
+    // One byte, if there is room for it.
+    pub fn push(&mut self, byte: u8)
+        ensures { filled_of self.new ≡ take (length self.old.buffer.now) (filled_of self.old ++ byte ∷ []) }
+    {
+        if self.filled < self.buffer.len() {
+            self.buffer[self.filled] = byte;
+            self.filled += 1;
+        }
+    }
 }
 
-// A name, and after it a number in decimal.
-pub fn decimal(out: &mut [u8], at: usize, name: &[u8], n: u64) -> usize {
-    let mut digits = [0u8; 20];
-    let k = io::decimal(n, &mut digits);
-    let to = bytes(out, at, name);
-    bytes(out, to, &digits[..k])
-}
-
-// A name, and after it an address: `0x` and lower-case hexadecimal digits without leading zeros.
-pub fn address(out: &mut [u8], at: usize, name: &[u8], n: u64) -> usize {
-    let mut digits = [0u8; 16];
-    let k = io::hex(n, 1, &mut digits);
-    let to = bytes(out, at, name);
-    let from = bytes(out, to, b"0x");
-    bytes(out, from, &digits[..k])
-}
-
-// The two hexadecimal digits of a byte, in the digits that are handed in.
-pub fn pair(out: &mut [u8], at: usize, value: u8, digits: &[u8; 16]) -> usize {
-    let high = (value / 16) as usize;
-    let low = (value % 16) as usize;
-    let to = byte(out, at, digits[high]);
-    byte(out, to, digits[low])
+impl<'a> fmt::Write for Text<'a> {
+    fn write_str(&mut self, s: &str) -> fmt::Result {
+        self.put(s.as_bytes());
+        Ok(())
+    }
 }

@@ -4,13 +4,13 @@ ghost use Rattle.std.specs.Prelude.{◌≡◌};
 ghost use Rattle.registers.specs.Words.{registers_from};
 ghost use Rattle.ids.specs.Numbers.{request_from};
 ghost use Rattle.book.specs.Into.{AsksBook};
-ghost use Rattle.llobatelh.specs.Calls.{NoticesBook, OpensBook, ReportsBook, said_says};
+ghost use Rattle.llobatelh.specs.Calls.{NoticesBook, OpensBook, ReportsBook};
 
 use answers::ANSWER_WORDS;
-use book::Said;
 use book_words::BOOK_WORDS;
+use ids::Request;
+use memory_image::{Extent, Memory};
 use registers::{REGISTER_WORDS, Registers};
-use report::Written;
 
 // Opens a book: 0 and every word of it; or refusal 1, 2 or 4.
 pub fn llobatelh_open(
@@ -24,18 +24,8 @@ pub fn llobatelh_open(
     ensures { OpensBook (registers_from registers.now strtab_base) (record { base = base; length = length }) slots book.old result book.new }
 {
     let regs = Registers::from_words(registers, strtab_base);
-    let said = book::open(book, regs, base, length, slots);
-    number_of(said)
-}
-
-// 0, or a refusal's number.
-fn number_of(said: Said) -> u64
-    ensures { result ≡ said_says said }
-{
-    match said {
-        Said::Refused(number) => number,
-        Said::Done => 0,
-    }
+    let said = book::open(book, regs, Extent { base, length }, slots);
+    super::number_of(said)
 }
 
 // Asks a book: 100 (kept before), 101 (newly kept) or 102 (not kept) and the answer's words; or refusal
@@ -51,7 +41,15 @@ pub fn llobatelh_ask(
 ) -> u64
     ensures { AsksBook book.old base memory.now (request_from stream given substream) answer.old result book.new answer.new }
 {
-    book::into::ask_into(answer, book, base, memory, stream, given, substream)
+    let lent = Memory {
+        base,
+        bytes: memory,
+    };
+    let request = Request::from_numbers(stream, given, substream);
+    match book::into::ask_into(answer, book, lent, request) {
+        Ok(kept) => kept.number(),
+        Err(refusal) => refusal.number(),
+    }
 }
 
 // Tells a book that bytes were edited: 0; or refusal 7 or 5.
@@ -59,19 +57,18 @@ pub fn llobatelh_notice(book: &mut [u64; BOOK_WORDS], start: u64, size: u64) -> 
     ensures { NoticesBook book.old start size result book.new }
 {
     let said = book::notice(book, start, size);
-    number_of(said)
+    super::number_of(said)
 }
 
 // Writes a book as text: 0 and the text's length; or refusal 7 or 8.
 pub fn llobatelh_report(book: &[u64; BOOK_WORDS], out: &mut [u8], length: &mut [u64; 1]) -> u64
     ensures { ReportsBook book.now out.old length.old result out.new length.new }
 {
-    let written = report::report(book, out);
-    match written {
-        Written::Refused(number) => number,
-        Written::Length(size) => {
+    match report::report(book, out) {
+        Ok(size) => {
             *length = [size as u64];
             0
         }
+        Err(refused) => refused.number(),
     }
 }

@@ -8,11 +8,11 @@ ghost use Rattle.registers.specs.Words.{registers_from};
 ghost use Rattle.ids.specs.Numbers.{request_from};
 ghost use Rattle.lookup.specs.Lookup.{LooksUp, looked_up};
 ghost use Rattle.lookup.specs.Part.{ste_at};
-ghost use Rattle.llobatelh.specs.Calls.{part_says, recorded_says};
+ghost use Rattle.llobatelh.specs.Calls.{part_says, recorded_says, said_says};
 
-use answers::ANSWER_WORDS;
+use answers::{ANSWER_WORDS, Refusal};
 use ids::Request;
-use lookup::part::Reached;
+use memory_image::Memory;
 use registers::{REGISTER_WORDS, Registers};
 
 pub mod book_calls;
@@ -33,19 +33,31 @@ pub fn llobatelh_lookup(
 ) -> u64
     ensures { LooksUp (looked_up (registers_from registers.now strtab_base) base memory.now (request_from stream given substream)) answer.old result answer.new }
 {
-    lookup::look_into(
+    let said = lookup::look_into(
         answer,
-        registers,
-        strtab_base,
-        base,
-        memory,
-        stream,
-        given,
-        substream,
-    )
+        Registers::from_words(registers, strtab_base),
+        Memory {
+            base,
+            bytes: memory,
+        },
+        Request::from_numbers(stream, given, substream),
+    );
+    number_of(said)
+}
+
+// 0, or a refusal's number.
+#[tactic(auto, unfolding(crate::specs::Calls::said_says))]
+fn number_of(said: Result<(), Refusal>) -> u64
+    ensures { result ≡ said_says said }
+{
+    match said {
+        Ok(()) => 0,
+        Err(refusal) => refusal.number(),
+    }
 }
 
 // Where in the memory the STE of a request starts, 64 bytes; or NO_PART where none is handed back.
+#[tactic(auto, using(crate::proofs::CallsLaws::part_at, crate::proofs::CallsLaws::part_none))]
 pub fn llobatelh_ste_part(
     registers: &[u32; REGISTER_WORDS],
     strtab_base: u64,
@@ -59,14 +71,18 @@ pub fn llobatelh_ste_part(
 {
     let regs = Registers::from_words(registers, strtab_base);
     let request = Request::from_numbers(stream, given, substream);
-    let at = lookup::part::ste_at(regs, base, memory, request);
-    match at {
-        Reached::At(place) => place as u64,
-        Reached::Nowhere => NO_PART,
+    let lent = Memory {
+        base,
+        bytes: memory,
+    };
+    match lookup::part::ste_at(regs, lent, request) {
+        Some(place) => place as u64,
+        None => NO_PART,
     }
 }
 
 // Whether an abort's event is recorded: 1 or 0.
+#[tactic(auto, using(crate::proofs::CallsLaws::recorded_so, crate::proofs::CallsLaws::recorded_not))]
 pub fn llobatelh_is_recorded(registers: &[u32; REGISTER_WORDS], strtab_base: u64, event: u64) -> u64
     ensures { result ≡ recorded_says (registers_from registers.now strtab_base) event }
 {

@@ -6,37 +6,28 @@ ghost use Rattle.lookup.specs.Part.{ste_at, ste_from};
 
 use answers::{PIECES_MOST, Pieces};
 use ids::Request;
+use memory_image::Memory;
 use registers::Registers;
 
-// The STE's offset in the memory, or that none is reached.
-#[derive(Clone, Copy)]
-pub enum Reached {
-    At(usize),
-    Nowhere,
-}
-
 // Where the first piece of 64 bytes lies, and nowhere where there is none.
-fn ste_from(base: u64, list: Pieces) -> Reached
+#[tactic(auto, unfolding(crate::specs::Part::ste_from))]
+fn ste_from(base: u64, list: Pieces) -> Option<usize>
     ensures { result ≡ ste_from base list.piece pieces_most 0 }
 {
-    let piece = list.piece;
-    let mut i: usize = 0;
-    while i < PIECES_MOST {
-        let p = piece[i];
-        if p.length == 64 {
-            let place = bit_fields::minus(p.address, base);
-            return Reached::At(place as usize);
+    for i in 0..PIECES_MOST {
+        let piece = list.piece[i];
+        if piece.length == 64 {
+            return Some(piece.address.saturating_sub(base) as usize);
         }
-        i += 1;
     }
-    Reached::Nowhere
+    None
 }
 
 // Where the STE of a request lies, and nowhere where none is fetched or the lookup refuses.
-pub fn ste_at(registers: Registers, base: u64, memory: &[u8], request: Request) -> Reached
-    ensures { result ≡ ste_at registers base memory.now request }
+#[tactic(auto, using(crate::proofs::PartLaws::listed_at))]
+pub fn ste_at(registers: Registers, memory: Memory, request: Request) -> Option<usize>
+    ensures { result ≡ ste_at registers memory.entry.base memory.entry.bytes.now request }
 {
-    let looked = super::lookup(registers, base, memory, request);
-    let list = looked.list;
-    ste_from(base, list)
+    let looked = super::lookup(registers, memory, request);
+    ste_from(memory.base, looked.list)
 }

@@ -1,6 +1,8 @@
 -- The claims of specs/Claims.antt, each under its own name.
 -- Assumes: nothing.
 use Prim.Native.Nat.{ℕ, zero, suc, ◌+◌, ◌^◌, ◌≤◌, ◌<◌}
+use Rattle.answers.specs.declared.refusals.Refusal.TheVariants as refusal
+use Rattle.answers.specs.declared.refusals.Refusal.{Refusal}
 use native.Mathlib.Omega.{arith}
 use mathlib.Core.Path.{◌≡◌, refl, sym, ap, ◌∙◌}
 use mathlib.Core.Bool.{Bool, true, false}
@@ -9,14 +11,15 @@ use mathlib.Core.Logic.{◌⊎◌, inl, inr}
 use lib.ListN.{length, get_or, set}
 use lib.Pow.{pow_mono}
 use lib.Seq.{get_or-set_other}
-use Rattle.std.specs.Prelude.{if◌then◌else◌}
+use Rattle.std.specs.Prelude.{if◌then◌else◌, Err, Ok, Result}
 use Rattle.bit_fields.proofs.ChoiceLaws.{alike, either}
 use Rattle.ids.specs.Ids.{refusal3}
 use Rattle.ids.specs.declared.Request.{Request}
 use Rattle.registers.specs.Sizes.{refusal1, oas_size, size_of}
 use Rattle.registers.specs.declared.Registers.{Registers}
 use Rattle.registers.proofs.SizesLaws.{oas_at_most}
-use Rattle.memory_image.specs.Extent.{Extent, extent_of, refusal2, address_top, fetched}
+use Rattle.memory_image.specs.Extent.{extent_of, refusal2, address_top, fetched}
+use Rattle.memory_image.specs.declared.Extent.{Extent}
 use Rattle.memory_image.specs.Rule.{run, and_then, Agree, Lies}
 use Rattle.memory_image.specs.Words.{bytes, word}
 use Rattle.memory_image.specs.declared.Piece.{Piece}
@@ -34,13 +37,11 @@ use Rattle.answers.proofs.ProperLaws.{Below, proper_pieces_lem}
 use Rattle.answer_words.specs.AnswerWords.{aborted, outcome_of, pieces_in, list_of, stands}
 use Rattle.answer_words.proofs.AnswerWordsLaws.{outcome_back, list_back, stands_proper}
 use Rattle.stream_table.specs.StreamTable.{stream_rule, is_linear, linear_at}
-use Rattle.stream_table.specs.declared.Found.{Found}
 use Rattle.stream_entry.specs.StreamEntry.{ste_rule, not_there}
 use Rattle.stream_table.proofs.StreamLaws.{stream_unread}
 use Rattle.lookup_claims.specs.Claims.{DependsOnList, ListedLies, DescriptorLong, ListedFew, RefusedExactly, OneAnswer, OnePart, FaultSaysWhich, NothingRead, AnswersProper, NoneIsNotZero, KeptIsReadBack, AnyAddressStands}
 use Rattle.lookup.specs.Lookup.{from_ste, from_entry, lookup_rule, ruled, refused_with, answered, looked_up}
 use Rattle.lookup.specs.declared.Looked.{Looked}
-use Rattle.lookup.specs.declared.Answer.TheVariants.{Refused, Is}
 use Rattle.lookup.proofs.RuledLaws.{lookup_few, lookup_every, ruled_few, ruled_proper}
 use Rattle.lookup_claims.specs.Failed.{not_fetched}
 use Rattle.lookup_claims.proofs.FaultLaws.{run_ends, Told, lookup_told}
@@ -58,11 +59,11 @@ refused_exactly r base memory request =
 
 -- what holds of a list with nothing in it, and of what the rules list, holds of the list that is answered
 module _ (P : Looked → Type 0) (r : Registers) (base : ℕ) (memory : List ℕ) (request : Request) where
-  by_cases : ((n : ℕ) → P (refused_with n)) → P (answered (ruled r base memory request)) → P (looked_up r base memory request)
+  by_cases : ((n : Refusal) → P (refused_with n)) → P (answered (ruled r base memory request)) → P (looked_up r base memory request)
   unfolding looked_up
   by_cases refused known =
-      either P (refusal1 r) (refused 1)
-      (either P (refusal2 (extent_of base memory)) (refused 2) (either P (refusal3 request) (refused 3) known))
+      either P (refusal1 r) (refused refusal.Registers)
+      (either P (refusal2 (extent_of base memory)) (refused refusal.Memory) (either P (refusal3 request) (refused refusal.Substream) known))
 
 nothing_each : (P : Piece → Type 0) → EachPiece P none
 unfolding none
@@ -123,9 +124,9 @@ module _ (r : Registers) (base : ℕ) (memory : List ℕ) (request : Request) wh
       (lookup_told (extent_of base memory) (2 ^ oas_size r) r request)
 
   -- an answer is what the rules give
-  answer_told : (outcome : Outcome) → (looked_up r base memory request).answer ≡ Is outcome → Told (extent_of base memory) (2 ^ oas_size r) outcome (not_fetched r base memory request)
+  answer_told : (outcome : Outcome) → (looked_up r base memory request).answer ≡ Ok outcome → Told (extent_of base memory) (2 ^ oas_size r) outcome (not_fetched r base memory request)
   answer_told outcome =
-      by_cases (λ l. l.answer ≡ Is outcome → Told (extent_of base memory) (2 ^ oas_size r) outcome (not_fetched r base memory request)) r base memory request
+      by_cases (λ l. l.answer ≡ Ok outcome → Told (extent_of base memory) (2 ^ oas_size r) outcome (not_fetched r base memory request)) r base memory request
       (λ n said. let z : ◌≡◌ {A = ℕ} 0 1 = cc in absurd (omega arith))
       (λ said. let same : (ruled r base memory request).answer ≡ outcome = cc in rw same at ruled_told)
 
@@ -152,7 +153,7 @@ unfolding ruled lookup_rule from_ste
 nothing_read r base memory request unread =
     by_cases (λ l. l.list ≡ none) r base memory request (λ n. refl)
     (let ended = stream_unread r request.stream.number unread in
-    rw ((then_gives_and_lists Found Outcome _ _ _ (from_ste r request.substream) (stream_rule r request.stream.number)).1, ended.1, run_done, run_done, pieces_none))
+    rw ((then_gives_and_lists (Result ℕ Outcome) Outcome _ _ _ (from_ste r request.substream) (stream_rule r request.stream.number)).1, ended.1, run_done, run_done, pieces_none))
 
 -- what the rules give is proper: each listed piece ends at or below 2^(OAS size), which is at most 2^52
 module _ (r : Registers) (base : ℕ) (memory : List ℕ) (request : Request) where
@@ -182,18 +183,18 @@ module _ (r : Registers) (base : ℕ) (memory : List ℕ) (request : Request) wh
 
 pub answers_proper : AnswersProper
 answers_proper r base memory request outcome l is =
-    by_cases (λ looked. looked ≡ record { answer = Is outcome; list = l } → ProperAnswer outcome l) r base memory request
+    by_cases (λ looked. looked ≡ record { answer = Ok outcome; list = l } → ProperAnswer outcome l) r base memory request
     refused known is
   where
-    refused : (n : ℕ) → refused_with n ≡ record { answer = Is outcome; list = l } → ProperAnswer outcome l
+    refused : (n : Refusal) → refused_with n ≡ record { answer = Ok outcome; list = l } → ProperAnswer outcome l
     refused n said =
-        let same : Refused n ≡ Is outcome = ap (λ (looked : Looked). looked.answer) said in
+        let same : Err n ≡ Ok outcome = ap (λ (looked : Looked). looked.answer) said in
         let z : ◌≡◌ {A = ℕ} 0 1 = cc in
         absurd (omega arith)
 
-    known : answered (ruled r base memory request) ≡ record { answer = Is outcome; list = l } → ProperAnswer outcome l
+    known : answered (ruled r base memory request) ≡ record { answer = Ok outcome; list = l } → ProperAnswer outcome l
     known said =
-        let same : Is (ruled r base memory request).answer ≡ Is outcome = ap (λ (looked : Looked). looked.answer) said in
+        let same : Ok (ruled r base memory request).answer ≡ Ok outcome = ap (λ (looked : Looked). looked.answer) said in
         let same_outcome : (ruled r base memory request).answer ≡ outcome = cc in
         let same_list : pieces_of (ruled r base memory request).list ≡ l = ap (λ (looked : Looked). looked.list) said in
         rw (same_outcome, same_list) at (proper_answer r base memory request)

@@ -5,6 +5,7 @@
 --     lookup_told                   of the whole
 -- Assumes: nothing.
 use Prim.Native.Nat.{ℕ, ◌-◌, ◌*◌, ◌^◌}
+use Rattle.ids.specs.declared.SubstreamId.{SubstreamId}
 use mathlib.Core.Path.{◌≡◌, refl, sym, ◌∙◌}
 use mathlib.Core.Bool.{Bool, true, false, not, ◌&&◌, ◌||◌}
 use mathlib.Core.List.{List, [], ◌∷◌, ◌++◌, append-nil}
@@ -12,15 +13,14 @@ use mathlib.Core.Logic.{◌⊎◌, inl, inr}
 use lib.Dec.{eqb, leb, ltb}
 use Rattle.number_laws.proofs.Tests.{not_both}
 use Rattle.bit_fields.specs.Bits.{bits, low}
-use Rattle.std.specs.Prelude.{if◌then◌else◌}
+use Rattle.std.specs.Prelude.{if◌then◌else◌, Err, None, Ok, Option, Result, Some}
 use Rattle.bit_fields.proofs.ChoiceLaws.{either}
 use Rattle.ids.specs.declared.Request.{Request}
-use Rattle.ids.specs.declared.Substream.{Substream}
-use Rattle.ids.specs.declared.Substream.TheVariants.{Without, With}
 use Rattle.registers.specs.Fields.{smmu_en, hyp, ttf}
 use Rattle.registers.specs.Fields as fields
 use Rattle.registers.specs.declared.Registers.{Registers}
-use Rattle.memory_image.specs.Extent.{Extent, fetched}
+use Rattle.memory_image.specs.Extent.{fetched}
+use Rattle.memory_image.specs.declared.Extent.{Extent}
 use Rattle.memory_image.specs.Rule.{Rule, done, fetch, descriptor, words_at, run, and_then}
 use Rattle.memory_image.specs.declared.Piece.{Piece}
 use Rattle.memory_image.proofs.ExtentLaws.{lies_fetched}
@@ -28,16 +28,8 @@ use Rattle.memory_image.proofs.RunLaws.{run_done, run_had, run_fault}
 use Rattle.answers.specs.declared.Outcome.{Outcome}
 use Rattle.answers.specs.declared.Outcome.TheVariants.{Translate, Bypass, BypassGlobal, Abort, Fault, Quiet, Unserved}
 use Rattle.stream_table.specs.StreamTable.{switched_off, log2, is_linear, split_of, l1std_at, stes_held, span_of, in_leaf, leaf_rule, two_level_rule, stream_rule}
-use Rattle.stream_table.specs.declared.Found.{Found}
-use Rattle.stream_table.specs.declared.Found.TheVariants as stream
-use Rattle.stream_table.specs.declared.Leaf.{Leaf}
-use Rattle.stream_table.specs.declared.Leaf.TheVariants.{Invalid, Holds}
 use Rattle.stream_entry.specs.StreamEntry.{v, config, s1_fmt, s1_cd_max, s1_dss, strw, not_there, stage2_in, bad_stage1, bypass_rule, with_id, without_id, substream_rule, stage1_rule, ste_rule}
-use Rattle.stream_entry.specs.declared.Entry.{Entry}
-use Rattle.stream_entry.specs.declared.Entry.TheVariants as entry
 use Rattle.context_table.specs.ContextTable.{l1cd_rule, two_level_rule as cd_two_level_rule, context_rule}
-use Rattle.context_table.specs.declared.Found.{Found as CdFound}
-use Rattle.context_table.specs.declared.Found.TheVariants as context
 use Rattle.context_entry.specs.ContextEntry as cd
 use Rattle.lookup.specs.Lookup.{from_cd, from_entry, from_ste, lookup_rule}
 use Rattle.lookup_claims.specs.Failed.{failures, Wanted}
@@ -106,9 +98,9 @@ module _ (e : Extent) (limit : ℕ) where
       }
 
   -- from StreamID to STE
-  abbrev StreamTold : Found → List Piece → Type 0
-  StreamTold (stream.Ste ste) failed = failed ≡ []
-  StreamTold (stream.Ended outcome) failed = Told outcome failed
+  abbrev StreamTold : Result ℕ Outcome → List Piece → Type 0
+  StreamTold (Ok ste) failed = failed ≡ []
+  StreamTold (Err outcome) failed = Told outcome failed
 
   off_told : (r : Registers) → Told (switched_off r) []
   unfolding switched_off
@@ -118,9 +110,9 @@ module _ (e : Extent) (limit : ℕ) where
   unfolding leaf_rule
   leaf_told r split l1std number = go (stes_held (span_of l1std) split)
     where
-      go : (leaf : Leaf) → StreamTold (in_leaf leaf l1std (low number split)) []
-      go Invalid = refl
-      go (Holds n) = either (λ found. StreamTold found []) (leb n (low number split)) refl refl
+      go : (leaf : Option ℕ) → StreamTold (in_leaf leaf l1std (low number split)) []
+      go None = refl
+      go (Some n) = either (λ found. StreamTold found []) (leb n (low number split)) refl refl
 
   stream_told : (r : Registers) (number : ℕ) → Ends StreamTold (stream_rule r number)
   unfolding stream_rule two_level_rule
@@ -131,22 +123,22 @@ module _ (e : Extent) (limit : ℕ) where
       (wanted 1 (inl refl) (l1std_at r (split_of (fields.split r)) number), λ w. leaf_told r (split_of (fields.split r)) (w 0) number)))
 
   -- reading the STE
-  abbrev EntryTold : Entry → Type 0
-  EntryTold (entry.Stage1 index) = Unit {0}
-  EntryTold (entry.Ended outcome) = Told outcome []
+  abbrev EntryTold : Result ℕ Outcome → Type 0
+  EntryTold (Ok index) = Unit {0}
+  EntryTold (Err outcome) = Told outcome []
 
-  with_told : (max : ℕ) (w : ℕ → ℕ) (substream : Substream) (address : ℕ) → EntryTold (substream_rule max w substream address)
+  with_told : (max : ℕ) (w : ℕ → ℕ) (substream : Option SubstreamId) (address : ℕ) → EntryTold (substream_rule max w substream address)
   unfolding with_id without_id
-  with_told max w Without address =
+  with_told max w None address =
       either EntryTold (eqb max 0) tt (either EntryTold (eqb (s1_dss w) 0) refl (either EntryTold (eqb (s1_dss w) 1) refl tt))
-  with_told max w (With id) address =
+  with_told max w (Some id) address =
       either EntryTold (eqb max 0 || leb (2 ^ max) id.number) refl (either EntryTold (eqb id.number 0 && eqb (s1_dss w) 2) refl tt)
 
-  bypass_told : (substream : Substream) (address : ℕ) → Told (bypass_rule substream address) []
-  bypass_told Without address = refl
-  bypass_told (With id) address = refl
+  bypass_told : (substream : Option SubstreamId) (address : ℕ) → Told (bypass_rule substream address) []
+  bypass_told None address = refl
+  bypass_told (Some id) address = refl
 
-  entry_told : (r : Registers) (substream : Substream) (address : ℕ) (w : ℕ → ℕ) → EntryTold (ste_rule r substream address w)
+  entry_told : (r : Registers) (substream : Option SubstreamId) (address : ℕ) (w : ℕ → ℕ) → EntryTold (ste_rule r substream address w)
   unfolding ste_rule stage1_rule
   entry_told r substream address w =
       either EntryTold (eqb (v w) 0) refl
@@ -158,9 +150,9 @@ module _ (e : Extent) (limit : ℕ) where
       (either EntryTold (eqb (hyp r) 1 && not (eqb (strw w) 0)) refl (with_told (s1_cd_max r w) w substream address)))))))
 
   -- from SubstreamID to CD
-  abbrev ContextTold : CdFound → List Piece → Type 0
-  ContextTold (context.Cd address) failed = failed ≡ []
-  ContextTold (context.Ended outcome) failed = Told outcome failed
+  abbrev ContextTold : Result ℕ Outcome → List Piece → Type 0
+  ContextTold (Ok address) failed = failed ≡ []
+  ContextTold (Err outcome) failed = Told outcome failed
 
   context_told : (r : Registers) (w : ℕ → ℕ) (index : ℕ) → Ends ContextTold (context_rule r w index)
   unfolding context_rule cd_two_level_rule l1cd_rule
@@ -183,24 +175,24 @@ module _ (e : Extent) (limit : ℕ) where
 
   -- the whole
   from_cd_told :
-      (r : Registers) (ste : ℕ) (found : CdFound) (failed : List Piece) → ContextTold found failed
+      (r : Registers) (ste : ℕ) (found : Result ℕ Outcome) (failed : List Piece) → ContextTold found failed
       → Ends (λ outcome more. Told outcome (failed ++ more)) (from_cd r ste found)
   unfolding from_cd
-  from_cd_told r ste (context.Ended outcome) failed told = rw append-nil told
-  from_cd_told r ste (context.Cd address) failed told = rw told (wanted 8 (inr refl) address, λ w. cd_told r ste address w)
+  from_cd_told r ste (Err outcome) failed told = rw append-nil told
+  from_cd_told r ste (Ok address) failed told = rw told (wanted 8 (inr refl) address, λ w. cd_told r ste address w)
 
-  from_entry_told : (r : Registers) (ste : ℕ) (w : ℕ → ℕ) (says : Entry) → EntryTold says → Ends Told (from_entry r ste w says)
+  from_entry_told : (r : Registers) (ste : ℕ) (w : ℕ → ℕ) (says : Result ℕ Outcome) → EntryTold says → Ends Told (from_entry r ste w says)
   unfolding from_entry
-  from_entry_told r ste w (entry.Ended outcome) told = told
-  from_entry_told r ste w (entry.Stage1 index) told =
+  from_entry_told r ste w (Err outcome) told = told
+  from_entry_told r ste w (Ok index) told =
       ends_then ContextTold Told (from_cd r ste) (from_cd_told r ste) (context_rule r w index) (context_told r w index)
 
   from_ste_told :
-      (r : Registers) (substream : Substream) (found : Found) (failed : List Piece) → StreamTold found failed
+      (r : Registers) (substream : Option SubstreamId) (found : Result ℕ Outcome) (failed : List Piece) → StreamTold found failed
       → Ends (λ outcome more. Told outcome (failed ++ more)) (from_ste r substream found)
   unfolding from_ste
-  from_ste_told r substream (stream.Ended outcome) failed told = rw append-nil told
-  from_ste_told r substream (stream.Ste ste) failed told =
+  from_ste_told r substream (Err outcome) failed told = rw append-nil told
+  from_ste_told r substream (Ok ste) failed told =
       rw told (wanted 8 (inr refl) ste, λ w. from_entry_told r ste w (ste_rule r substream ste w) (entry_told r substream ste w))
 
   pub lookup_told : (r : Registers) (request : Request) → Ends Told (lookup_rule r request)

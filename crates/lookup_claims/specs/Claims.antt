@@ -12,12 +12,12 @@
 --                        and the words of a lookup's answer stand
 --     AnyAddressStands   whether an abort's words stand does not hang on the word of the address
 -- Assumes: nothing.
-use Rattle.std.specs.Prelude.{ℕ, ◌+◌, ◌^◌, ◌≤◌, ◌≡◌, true, false, List, [], ◌∷◌, ◌⊎◌, length, replicate, get_or, set}
+use Rattle.std.specs.Prelude.{ℕ, ◌+◌, ◌^◌, ◌≤◌, ◌≡◌, true, false, List, [], ◌∷◌, ◌⊎◌, length, replicate, get_or, set, None, Ok, Option, Some}
+use Rattle.answers.specs.declared.refusals.Refusal.TheVariants as refusal
+use Rattle.ids.specs.declared.SubstreamId.{SubstreamId}
 use Rattle.std.specs.Borrow.{Bor}
 use Rattle.ids.specs.Ids.{refusal3}
 use Rattle.ids.specs.declared.Request.{Request}
-use Rattle.ids.specs.declared.Substream.{Substream}
-use Rattle.ids.specs.declared.Substream.TheVariants.{Without, With}
 use Rattle.registers.specs.Fields.{smmu_en}
 use Rattle.registers.specs.Sizes.{refusal1, oas_size}
 use Rattle.registers.specs.Words.{registers_from}
@@ -37,8 +37,6 @@ use Rattle.stream_table.specs.StreamTable.{log2}
 use Rattle.lookup.specs.Lookup.{looked_up, refused_with, answered, ruled}
 use Rattle.lookup.specs.Part.{SteHanded}
 use Rattle.lookup.specs.declared.Looked.{Looked}
-use Rattle.lookup.specs.declared.part.Reached.{Reached}
-use Rattle.lookup.specs.declared.Answer.TheVariants.{Is}
 use Rattle.lookup_claims.specs.Failed.{not_fetched, Wanted}
 
 abbrev pub DependsOnList : Type 0
@@ -64,11 +62,11 @@ ListedFew =
 
 -- the four cases leave none out, and no two of them meet
 pub record RefusedExactly (r : Registers) (base : ℕ) (memory : List ℕ) (request : Request) : Type 0 where
-  pub first : refusal1 r ≡ true → looked_up r base memory request ≡ refused_with 1
-  pub second : refusal1 r ≡ false → refusal2 (extent_of base memory) ≡ true → looked_up r base memory request ≡ refused_with 2
+  pub first : refusal1 r ≡ true → looked_up r base memory request ≡ refused_with refusal.Registers
+  pub second : refusal1 r ≡ false → refusal2 (extent_of base memory) ≡ true → looked_up r base memory request ≡ refused_with refusal.Memory
   pub third :
       refusal1 r ≡ false → refusal2 (extent_of base memory) ≡ false → refusal3 request ≡ true
-      → looked_up r base memory request ≡ refused_with 3
+      → looked_up r base memory request ≡ refused_with refusal.Substream
   pub answer :
       refusal1 r ≡ false → refusal2 (extent_of base memory) ≡ false → refusal3 request ≡ false
       → looked_up r base memory request ≡ answered (ruled r base memory request)
@@ -80,16 +78,16 @@ OneAnswer =
 
 abbrev pub OnePart : Type 0
 OnePart =
-    (memory x y : Bor (List ℕ)) (at : Reached) → SteHanded memory x at → SteHanded memory y at
+    (memory x y : Bor (List ℕ)) (at : Option ℕ) → SteHanded memory x at → SteHanded memory y at
     → (x.now ≡ y.now) × (x.ref_ptr.0 ≡ y.ref_ptr.0) × (x.ref_ptr.1 ≡ y.ref_ptr.1)
 
 -- a lookup that isn't refused: a fault names the one descriptor that wasn't fetched, and where every one was there is no fault
 pub record FaultSaysWhich (r : Registers) (base : ℕ) (memory : List ℕ) (request : Request) : Type 0 where
   pub named :
-      (event address : ℕ) → (looked_up r base memory request).answer ≡ Is (Fault event address)
+      (event address : ℕ) → (looked_up r base memory request).answer ≡ Ok (Fault event address)
       → Wanted (extent_of base memory) (2 ^ oas_size r) (not_fetched r base memory request) address
   pub unnamed :
-      (outcome : Outcome) → (looked_up r base memory request).answer ≡ Is outcome
+      (outcome : Outcome) → (looked_up r base memory request).answer ≡ Ok outcome
       → ((event address : ℕ) → outcome ≡ Fault event address → ⊥) → not_fetched r base memory request ≡ []
 
 abbrev pub NothingRead : Type 0
@@ -100,7 +98,7 @@ NothingRead =
 abbrev pub AnswersProper : Type 0
 AnswersProper =
     (r : Registers) (base : ℕ) (memory : List ℕ) (request : Request) (outcome : Outcome) (l : Pieces)
-    → looked_up r base memory request ≡ record { answer = Is outcome; list = l } → ProperAnswer outcome l
+    → looked_up r base memory request ≡ record { answer = Ok outcome; list = l } → ProperAnswer outcome l
 
 -- one STE of 64 bytes, V 1 and Config 100, in a linear table of one entry at address 0, with a 32-bit OAS: CR0 is 1, and every other register 0
 abbrev pub small_registers : Registers
@@ -109,13 +107,13 @@ small_registers = registers_from (0 ∷ (0 ∷ (0 ∷ (1 ∷ [])))) 0
 abbrev pub small_memory : List ℕ
 small_memory = 9 ∷ replicate 63 0
 
-abbrev pub stream_zero : Substream → Request
+abbrev pub stream_zero : Option SubstreamId → Request
 stream_zero substream = record { stream = record { number = 0 }; substream = substream }
 
 abbrev pub NoneIsNotZero : Type 0
 NoneIsNotZero =
-    ((looked_up small_registers 0 small_memory (stream_zero Without)).answer ≡ Is (Bypass 0))
-    × ((looked_up small_registers 0 small_memory (stream_zero (With (record { number = 0 })))).answer ≡ Is (Abort 8))
+    ((looked_up small_registers 0 small_memory (stream_zero None)).answer ≡ Ok (Bypass 0))
+    × ((looked_up small_registers 0 small_memory (stream_zero (Some (record { number = 0 })))).answer ≡ Ok (Abort 8))
 
 pub record KeptIsReadBack (outcome : Outcome) (l : Pieces) : Type 0 where
   pub same_outcome : own_event outcome ≡ true → outcome_of (words_of outcome l) ≡ outcome

@@ -7,7 +7,8 @@ use Rattle.std.specs.Prelude.{ℕ, ◌-◌, ◌*◌, ◌^◌, ◌≡◌, List, [
 use Rattle.ids.specs.declared.Request.{Request}
 use Rattle.registers.specs.Sizes.{oas_size}
 use Rattle.registers.specs.declared.Registers.{Registers}
-use Rattle.memory_image.specs.Extent.{Extent, extent_of, fetched}
+use Rattle.memory_image.specs.Extent.{extent_of, fetched}
+use Rattle.memory_image.specs.declared.Extent.{Extent}
 use Rattle.memory_image.specs.Rule.{Rule, done, fetch, descriptor, words_at, Lies}
 use Rattle.memory_image.specs.Words.{bytes}
 use Rattle.memory_image.specs.declared.Piece.{Piece}

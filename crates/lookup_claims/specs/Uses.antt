@@ -8,7 +8,7 @@
 --     WantedNotListed       FaultSaysWhich, ListedLies: the descriptor that was wanted is not on the list
 --     FaultStandsAnywhere   AnyAddressStands, KeptIsReadBack: the words of a proper fault stand with any other address
 -- Assumes: nothing.
-use Rattle.std.specs.Prelude.{ℕ, ◌+◌, ◌^◌, ◌<◌, ◌≡◌, true, List, [], ◌∷◌, ◌⊎◌, length, set}
+use Rattle.std.specs.Prelude.{ℕ, ◌+◌, ◌^◌, ◌<◌, ◌≡◌, true, List, [], ◌∷◌, ◌⊎◌, length, set, Ok}
 use Rattle.ids.specs.declared.Request.{Request}
 use Rattle.registers.specs.Sizes.{oas_size}
 use Rattle.registers.specs.declared.Registers.{Registers}
@@ -21,7 +21,6 @@ use Rattle.answers.specs.declared.Pieces.{Pieces}
 use Rattle.answer_words.specs.AnswerWords.{words_of, stands}
 use Rattle.stream_table.specs.StreamTable.{log2}
 use Rattle.lookup.specs.Lookup.{looked_up}
-use Rattle.lookup.specs.declared.Answer.TheVariants.{Is}
 use Rattle.lookup_claims.specs.Failed.{not_fetched}
 
 abbrev pub NothingInNoMemory : Type 0
@@ -40,13 +39,13 @@ NothingReadAtEdge =
 abbrev pub LookAtWhatYouLent : Type 0
 LookAtWhatYouLent =
     (r : Registers) (base : ℕ) (memory : List ℕ) (request : Request) (event address : ℕ)
-    → (looked_up r base memory request).answer ≡ Is (Fault event address)
+    → (looked_up r base memory request).answer ≡ Ok (Fault event address)
     → (address < base) ⊎ ((base + length memory < address + 64) ⊎ (2 ^ oas_size r < address + 64))
 
 abbrev pub WantedNotListed : Type 0
 WantedNotListed =
     (r : Registers) (base : ℕ) (memory : List ℕ) (request : Request) (event address : ℕ)
-    → (looked_up r base memory request).answer ≡ Is (Fault event address) → (p : Piece) → not_fetched r base memory request ≡ p ∷ []
+    → (looked_up r base memory request).answer ≡ Ok (Fault event address) → (p : Piece) → not_fetched r base memory request ≡ p ∷ []
     → (p.address ≡ address) × EachPiece (λ q. q ≡ p → ⊥) (looked_up r base memory request).list
 
 abbrev pub FaultStandsAnywhere : Type 0

@@ -1,17 +1,15 @@
 -- The bytes of a memory that lie below a limit.
---     below_none, below_all, below_some    which they are, by the tests that the code makes
---     run_below                            a rule that fetches no empty descriptor gives and lists the same on them as on the whole memory under that limit
+--     run_below    a rule that fetches no empty descriptor gives and lists the same on them as on the whole memory under that limit
 -- Assumes: nothing.
-use Prim.Native.Nat.{ℕ, ◌+◌, ◌-◌, ◌*◌, ◌≤◌, ◌<◌, min}
-use native.Mathlib.Nat.{sub-zero}
+use Prim.Native.Nat.{ℕ, ◌+◌, ◌-◌, ◌*◌, ◌<◌, min}
 use native.Mathlib.Omega.{arith}
 use mathlib.Core.Path.{◌≡◌, refl, sym, ◌∙◌}
 use mathlib.Core.Bool.{Bool, true, false, ◌&&◌}
-use mathlib.Core.List.{List, []}
+use mathlib.Core.List.{List}
 use borrow.Author.Tests.{leb-true, leb-false}
 use lib.Dec.{leb}
-use lib.ListN.{length, take, length-take}
-use lib.Seq.{take_all, get_or-take}
+use lib.ListN.{length, length-take}
+use lib.Seq.{get_or-take}
 use Rattle.memory_image.specs.Extent.{extent_of, end_of, below, fetched}
 use Rattle.memory_image.specs.Words.{bytes}
 use Rattle.memory_image.specs.Rule.{Rule, done, fetch, run, words_at, descriptor, Every}
@@ -19,18 +17,6 @@ use Rattle.memory_image.proofs.ExtentLaws.{fetched_lies}
 use Rattle.memory_image.proofs.RunLaws.{run_done, run_had, run_fault, words_agree}
 
 module _ (base limit : ℕ) (memory : List ℕ) where
-  pub below_none : limit < base → [] ≡ below base limit memory
-  unfolding below
-  below_none past = let none : limit - base ≡ 0 = omega arith in rw none
-
-  pub below_all : length memory ≤ limit - base → memory ≡ below base limit memory
-  unfolding below
-  below_all short = rw (take_all (limit - base) memory short)
-
-  pub below_some : take (limit - base - 0) memory ≡ below base limit memory
-  unfolding below
-  below_some = rw sub-zero
-
   abbrev part : List ℕ
   part = below base limit memory
 

@@ -1,47 +1,21 @@
--- Refusal 2 and the fetch, by the tests that the code makes.
---     refused_base, refused_length, refused_end   which clause refuses; the last decides
---     before, past_end, had                       the ways of a fetch, by where the bytes lie
+-- The fetch, by the tests that the code makes.
+--     before, past_end, had                       the ways of a fetch, by where the bytes lie; fetch_ways: all three
 --     fetched_lies, lies_fetched                  what is fetched lies in the memory and below the limit, and the other way round
 --     at_place, outside, wanted_is                what the two answers say of the fetch; the address that was wanted
---     wanted_at, wanted_outside                   the address, by the cases
 -- Assumes: nothing.
-use Prim.Native.Nat.{ℕ, ◌+◌, ◌-◌, ◌%◌, ◌≤◌, ◌<◌}
+use Prim.Native.Nat.{ℕ, ◌+◌, ◌-◌, ◌≤◌, ◌<◌}
 use native.Mathlib.Omega.{arith}
-use mathlib.Core.Path.{◌≡◌, refl, sym}
+use mathlib.Core.Path.{◌≡◌, refl}
 use mathlib.Core.Bool.{Bool, true, false, ◌&&◌}
-use borrow.Author.Tests.{eq-eqb, ne_eqb, lt-ltb, le-ltb, le-leb, lt-leb, ltb-true, ltb-false, leb-true}
-use lib.Dec.{ltb}
+use borrow.Author.Tests.{le-leb, lt-leb, leb-true}
 use Rattle.number_laws.proofs.Tests.{both}
 use Rattle.std.specs.Prelude.{if◌then◌else◌}
-use Rattle.memory_image.specs.Extent.{Extent, memory_most, address_top, refusal2, fetched, fetch_rule, wanted}
+use Rattle.memory_image.specs.Extent.{fetched, fetch_rule, wanted}
+use Rattle.memory_image.specs.declared.Extent.{Extent}
 use Rattle.memory_image.specs.Rule.{Lies}
 use Rattle.memory_image.specs.declared.Piece.{Piece}
 use Rattle.memory_image.specs.declared.Fetched.{Fetched}
 use Rattle.memory_image.specs.declared.Fetched.TheVariants.{At, Outside}
-
-module _ (base length : ℕ) where
-  abbrev e : Extent
-  e = record { base = base; length = length }
-
-  pub refused_base : (base % 64 ≡ 0 → ⊥) → true ≡ refusal2 e
-  unfolding refusal2
-  refused_base odd = simp (ne_eqb _ _ odd)
-
-  pub refused_length : base % 64 ≡ 0 → memory_most < length → true ≡ refusal2 e
-  unfolding refusal2
-  refused_length even long = simp (eq-eqb _ _ even, lt-ltb _ _ long)
-
-  pub refused_end : base % 64 ≡ 0 → length ≤ memory_most → ltb (address_top - length) base ≡ refusal2 e
-  unfolding refusal2
-  refused_end even fits = simp (eq-eqb _ _ even, le-ltb _ _ fits) (go (ltb (address_top - length) base) refl)
-    where
-      go : (b : Bool) → ltb (address_top - length) base ≡ b → b ≡ ltb (address_top) (base + length)
-      go true is =
-          let past = ltb-true (address_top - length) base is in
-          sym (lt-ltb (address_top) (base + length) (omega arith))
-      go false is =
-          let below = ltb-false (address_top - length) base is in
-          sym (le-ltb (address_top) (base + length) (omega arith))
 
 module _ (e : Extent) (limit : ℕ) (p : Piece) where
   pub fetched_lies : fetched e limit p.address p.length ≡ true → Lies e limit p
@@ -116,10 +90,4 @@ module _ (e : Extent) (limit address size : ℕ) {said : Fetched} (is : said ≡
       let went = by_test false (outside out) in
       rw went at told
 
-pub wanted_at : {said : Fetched} {place : ℕ} → said ≡ At place → 0 ≡ wanted said
-unfolding wanted
-wanted_at is = rw is refl
-
-pub wanted_outside : {said : Fetched} {address : ℕ} → said ≡ Outside address → address ≡ wanted said
-unfolding wanted
-wanted_outside is = rw is refl
+pub ruleset fetch_ways = (before, past_end, had)

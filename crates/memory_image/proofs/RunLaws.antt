@@ -18,7 +18,8 @@ use borrow.Author.Tests.{ltb-true}
 use lib.Dec.{ltb}
 use lib.ListN.{length}
 use Rattle.std.specs.Prelude.{if◌then◌else◌}
-use Rattle.memory_image.specs.Extent.{Extent, fetched}
+use Rattle.memory_image.specs.Extent.{fetched}
+use Rattle.memory_image.specs.declared.Extent.{Extent}
 use Rattle.memory_image.specs.Words.{word}
 use Rattle.memory_image.specs.Rule.{Rule, done, fetch, Ran, descriptor, words_at, listed, run, and_then, Fetches, Every, Gives, Each, Lies, Agree}
 use Rattle.memory_image.specs.declared.Piece.{Piece}

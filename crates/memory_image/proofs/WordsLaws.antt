@@ -1,6 +1,7 @@
 -- Words of a lent memory.
 --     word_in_lem                        the word at an offset, where it lies in the memory
 --     of_none, of_past, of_read, of_some a word of a descriptor: none such; not in the memory; as it is read; by its offset
+--     word_ways                          what the check of `word` cites
 --     word_agree                         two memories with the same eight bytes have the same word there
 --     lowest, lowest_more, lowest_all    the lowest bytes of a word, as one number; with one more; all eight
 -- Assumes: nothing.
@@ -73,3 +74,5 @@ module _ (memory : List ℕ) (at n w : ℕ) (is : w ≡ lowest (bytes memory) at
       below : (n : ℕ) → lowest (bytes memory) at n < 2 ^ (8 * n)
       below zero = omega arith
       below (suc n) = rw (mul-suc 8 n, pow-add 2 (8 * n) 8, mul_comm (2 ^ (8 * n)) 256) (digits_lt (byte (at + n)).fits (below n))
+
+pub ruleset word_ways = (of_none, of_past, of_read)

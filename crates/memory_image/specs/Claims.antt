@@ -8,7 +8,8 @@
 --     ListedFew           a rule of at most so many fetches lists at most so many pieces
 -- Assumes: nothing.
 use Rattle.std.specs.Prelude.{ℕ, ◌-◌, ◌*◌, ◌≤◌, ◌≡◌, true, false, ◌++◌, length}
-use Rattle.memory_image.specs.Extent.{Extent, fetched}
+use Rattle.memory_image.specs.Extent.{fetched}
+use Rattle.memory_image.specs.declared.Extent.{Extent}
 use Rattle.memory_image.specs.Rule.{Rule, fetch, descriptor, words_at, listed, run, and_then, Fetches, Each, Lies, Agree}
 
 abbrev pub DependsOnList : Type 0 → Type 0

@@ -9,12 +9,9 @@
 -- Ours: an address is never cut off at the OAS, so a fetch that ends above it fails.
 -- Assumes: nothing.
 use Rattle.std.specs.Prelude.{ℕ, ◌+◌, ◌-◌, ◌%◌, ◌^◌, Bool, not, ◌&&◌, ◌||◌, List, eqb, leb, ltb, length, take, if◌then◌else◌}
+use Rattle.memory_image.specs.declared.Extent.{Extent}
 use Rattle.memory_image.specs.declared.Fetched.{Fetched}
 use Rattle.memory_image.specs.declared.Fetched.TheVariants.{At, Outside}
-
-pub record Extent : Type 0 where
-  pub base : ℕ
-  pub length : ℕ
 
 -- a base and a lent run of bytes
 abbrev pub extent_of : ℕ → List ℕ → Extent

@@ -3,3 +3,4 @@ pub mod Extent
 pub mod Words
 pub mod Rule
 pub mod Claims
+pub mod Descriptor

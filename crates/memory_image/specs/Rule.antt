@@ -11,7 +11,8 @@
 --     Agree       two memories have the same bytes in a piece
 -- Assumes: nothing.
 use Rattle.std.specs.Prelude.{ℕ, zero, suc, ◌+◌, ◌-◌, ◌*◌, ◌≤◌, ◌<◌, ◌≡◌, List, [], ◌∷◌, ltb, if◌then◌else◌}
-use Rattle.memory_image.specs.Extent.{Extent, fetched}
+use Rattle.memory_image.specs.Extent.{fetched}
+use Rattle.memory_image.specs.declared.Extent.{Extent}
 use Rattle.memory_image.specs.Words.{word}
 use Rattle.memory_image.specs.declared.Piece.{Piece}
 

@@ -2,8 +2,9 @@
 --     values_end, values_step      nothing is left; one value, and the rest
 --     values_length, values_at_lem  how many there are, and each of them
 --     values_same, values_list     from the same values; all of a list
+--     values_front, values_part    the first of a list; those from a place on
 --     all_each, all_every          a test that holds of all, place by place; and back
---     all_same                     of the same tests
+--     all_same, all_values         of the same tests; of values as a list
 --     all_hold, one_fails, one_holds  the loop over a test
 -- Assumes: nothing.
 use Prim.Native.Nat.{ℕ, zero, suc, ◌+◌, ◌-◌, ◌≤◌, ◌<◌}
@@ -14,7 +15,9 @@ use mathlib.Core.Bool.{Bool, true, false, not}
 use mathlib.Core.List.{List, [], ◌∷◌}
 use borrow.Author.Tests.{not-true, not-false, ltb-true, ltb-false}
 use lib.Dec.{ltb}
-use lib.ListN.{length, get_or}
+use lib.ListN.{length, get_or, take, drop, length-drop}
+use lib.Seq.{length-take-le, get_or-take, get_or-drop}
+use Rattle.std.specs.List.{list_all}
 use Rattle.number_laws.proofs.Scans.{left_none, left_one}
 use Rattle.number_laws.proofs.Tests.{both}
 use Rattle.placed.specs.From.{values_from, from, all_from}
@@ -61,6 +64,21 @@ values_list l = go l 0 (λ j. get_or l j 0) (λ j. rw zero-add)
       where
         next : (i j : ℕ) → i + 1 + j ≡ i + suc j
         next i j = omega arith
+
+pub values_front : (l : List ℕ) (n : ℕ) → n ≤ length l → take n l ≡ from l n 0
+values_front l n few =
+    sym (values_list (take n l))
+    ∙ rw (length-take-le n l few) (values_same (λ j. get_or (take n l) j 0) (λ j. get_or l j 0) n 0 (λ j low high. get_or-take n l j 0 (omega arith)))
+
+pub values_part : (l : List ℕ) (a m : ℕ) → a + m ≤ length l → take m (drop a l) ≡ values_from (λ j. get_or l (a + j) 0) m 0
+values_part l a m room =
+    values_front (drop a l) m (rw length-drop (omega arith))
+    ∙ values_same (λ j. get_or (drop a l) j 0) (λ j. get_or l (a + j) 0) m 0 (λ j low high. get_or-drop a l j 0)
+
+pub all_values : (test : ℕ → Bool) (f : ℕ → ℕ) (m i : ℕ) → list_all test (values_from f m i) ≡ all_from (λ j. test (f j)) m i
+unfolding values_from all_from
+all_values test f zero i = refl
+all_values test f (suc m) i = rw (all_values test f m (i + 1))
 
 module _ (test : ℕ → Bool) where
   pub all_each : (m i j : ℕ) → all_from test m i ≡ true → i ≤ j → j < i + m → test j ≡ true

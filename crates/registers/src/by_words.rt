@@ -1,4 +1,4 @@
-// The registers from words and as words: those of 32 bits in one order, and STRTAB_BASE by itself.
+// The registers from words and as words: those of 32 bits in one order, and STRTAB_BASE, which has 64, by itself.
 // Meets specs/Words.antt.
 ghost use Rattle.std.specs.Prelude.{◌≡◌};
 ghost use Rattle.registers.specs.Words.{registers_from, words_of_registers};
@@ -10,13 +10,7 @@ impl super::Registers {
     pub fn from_words(words: &[u32; REGISTER_WORDS], strtab_base: u64) -> Registers
         ensures { result ≡ registers_from words.now strtab_base }
     {
-        let idr0 = words[0];
-        let idr1 = words[1];
-        let idr5 = words[2];
-        let cr0 = words[3];
-        let cr2 = words[4];
-        let gbpa = words[5];
-        let strtab_base_cfg = words[6];
+        let [idr0, idr1, idr5, cr0, cr2, gbpa, strtab_base_cfg] = *words;
         Registers {
             idr0,
             idr1,

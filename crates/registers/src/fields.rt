@@ -1,5 +1,6 @@
 // The fields of the registers, a function each, by the standard's names.
-// Meets specs/Fields.antt, which gives the rules' bits; the numbers here are the lowest bit and the width.
+// Meets specs/Fields.antt, which gives the rules' bits; the numbers here are the lowest bit and the width. Each is a function
+// with a promise of its own, so that a rule says the standard's name and not where the bits are.
 ghost use Rattle.std.specs.Prelude.{◌≡◌};
 ghost use Rattle.registers.specs.Fields as fields;
 

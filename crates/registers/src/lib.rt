@@ -24,21 +24,28 @@ pub struct Registers {
     pub strtab_base_cfg: u32,
 }
 
-// What the codes 0 to 6 of OAS mean, in bits: a byte each, the lowest first.
-const SIZES: u64 = 0x34302C2A282420;
-
-// The size in bits of the addresses that a code of OAS means; 0 for a code that means none.
+// The size in bits of the addresses that a code of OAS means; 0 for a code that means none. No caller goes by that 0: OAS 7
+// is refused, and IPS 7 counts as the OAS.
+#[tactic(auto, unfolding(crate::specs::Sizes::size_of))]
 pub fn size_of(code: u64) -> u64
     ensures { result ≡ size_of code }
 {
-    if 7 <= code {
-        return 0;
-    }
-    bit_fields::field(SIZES, 8 * code, 8)
+    let bits: u8 = match code {
+        0 => 32,
+        1 => 36,
+        2 => 40,
+        3 => 42,
+        4 => 44,
+        5 => 48,
+        6 => 52,
+        _ => 0,
+    };
+    bits as u64
 }
 
 impl Registers {
     // The size of this SMMU's output addresses, in bits.
+    #[tactic(auto, unfolding(crate::specs::Sizes::oas_size))]
     pub fn oas_size(self) -> u64
         ensures { result ≡ oas_size self }
     {
@@ -46,6 +53,7 @@ impl Registers {
     }
 
     // Refusal 1: OAS is 7, SIDSIZE above 32, or SSIDSIZE above 20.
+    #[tactic(auto, unfolding(crate::specs::Sizes::refusal1))]
     pub fn refused(self) -> bool
         ensures { result ≡ refusal1 self }
     {

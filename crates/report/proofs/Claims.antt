@@ -1,5 +1,8 @@
 -- The claims of specs/Claims.antt, each under its own name.
 -- Assumes: nothing.
+use Rattle.answers.specs.declared.refusals.Refusal.TheVariants as refusal
+use Rattle.std.specs.Prelude.{Err, Ok, Result}
+use Rattle.answers.specs.declared.refusals.Refusal.{Refusal}
 use Prim.Native.Nat.{ℕ, ◌+◌, ◌≤◌}
 use native.Mathlib.Omega.{arith}
 use native.Mathlib.Nat.{zero-add}
@@ -15,8 +18,6 @@ use Rattle.placed.specs.Placed.{placed}
 use Rattle.placed.proofs.PlacedLaws.{placed_at, placed_above}
 use Rattle.report.specs.Report.{Reported, if_written, report_says, report_text}
 use Rattle.report.specs.Claims.{OneReport, LaterBytesStay, TextIsThere, ReportFits}
-use Rattle.report.specs.declared.Written.{Written}
-use Rattle.report.specs.declared.Written.TheVariants.{Refused, Length}
 use Rattle.report.proofs.LengthLaws.{report_short}
 
 pub one_report : OneReport
@@ -28,7 +29,7 @@ record Wrote (ws before after : List ℕ) (n : ℕ) : Type 0 where
   fits : 0 + length (report_text ws) ≤ length before
   holds : after ≡ placed before 0 (report_text ws)
 
-wrote : (ws before after : List ℕ) (n : ℕ) → Reported ws before (Length n) after → Wrote ws before after n
+wrote : (ws before after : List ℕ) (n : ℕ) → Reported ws before (Ok n) after → Wrote ws before after n
 unfolding report_says
 wrote ws before after n said =
     either Says (refusal7 ws) (λ result buffer. let z : ◌≡◌ {A = ℕ} 0 1 = cc in absurd (omega arith))
@@ -37,8 +38,8 @@ wrote ws before after n said =
     let room : length (report_text ws) ≤ length before = ltb-false _ _ under in
     record { long = cc; fits = omega arith; holds = buffer })) said.result said.buffer
   where
-    Says : Written → Type 0
-    Says says = Length n ≡ says → after ≡ if_written says before (placed before 0 (report_text ws)) → Wrote ws before after n
+    Says : Result ℕ Refusal → Type 0
+    Says says = Ok n ≡ says → after ≡ if_written says before (placed before 0 (report_text ws)) → Wrote ws before after n
 
 pub later_bytes_stay : LaterBytesStay
 later_bytes_stay ws before after n x said past =
@@ -67,5 +68,5 @@ report_fits ws before after enough promise =
     omega arith)
     (λ under is. let z : ◌≡◌ {A = ℕ} 0 1 = cc in omega arith)) promise.result
   where
-    Fits : Written → Type 0
-    Fits says = Refused 8 ≡ says → ⊥
+    Fits : Result ℕ Refusal → Type 0
+    Fits says = Err refusal.Room ≡ says → ⊥

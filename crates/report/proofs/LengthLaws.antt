@@ -2,6 +2,8 @@
 --     report_short     the header, and at most line_most bytes for each slot
 -- Assumes: nothing.
 use Prim.Native.Nat.{ℕ, zero, suc, ◌+◌, ◌-◌, ◌*◌, ◌≤◌, ◌<◌}
+use Rattle.ids.specs.declared.SubstreamId.{SubstreamId}
+use Rattle.ids.specs.declared.Request.{Request}
 use native.Mathlib.Omega.{arith}
 use mathlib.Core.Path.{◌≡◌, refl}
 use mathlib.Core.Bool.{Bool, true, false}
@@ -11,12 +13,8 @@ use lib.Dec.{eqb, leb, ltb}
 use lib.ListN.{length, length-append}
 use Rattle.placed.specs.From.{all_from}
 use Rattle.placed.proofs.FromLaws.{all_each}
-use Rattle.std.specs.Prelude.{if◌then◌else◌}
+use Rattle.std.specs.Prelude.{if◌then◌else◌, None, Option, Some}
 use Rattle.ids.specs.Packing.{unpacked}
-use Rattle.ids.specs.declared.Substream.{Substream}
-use Rattle.ids.specs.declared.Substream.TheVariants.{Without, With}
-use Rattle.ids.specs.declared.Unpacked.{Unpacked}
-use Rattle.ids.specs.declared.Unpacked.TheVariants as request
 use Rattle.registers.specs.declared.Registers.{Registers}
 use Rattle.answers.specs.Outcome.{recorded}
 use Rattle.answers.specs.declared.Outcome.{Outcome}
@@ -70,10 +68,10 @@ decimal_short n = go (ltb n 10)
     go true = omega arith
     go false = omega arith
 
-substream_short : (s : Substream) → length (substream_in s) ≤ substream_digits
+substream_short : (s : Option SubstreamId) → length (substream_in s) ≤ substream_digits
 unfolding digits
-substream_short Without = omega arith
-substream_short (With s) = omega arith
+substream_short None = omega arith
+substream_short (Some s) = omega arith
 
 -- an outcome's word, and its address
 abbrev together : Registers → Outcome → ℕ
@@ -127,10 +125,10 @@ line_short : (ws : List ℕ) (i : ℕ) → i < slots_most → length (line_text 
 unfolding line_at line_for
 line_short ws i few = go (eqb (key_at ws i) 0) (unpacked (key_at ws i - 1))
   where
-    go : (b : Bool) (u : Unpacked) → length (line_text (if b then line.Nothing else line_for ws i u)) ≤ line_most
+    go : (b : Bool) (u : Option Request) → length (line_text (if b then line.Nothing else line_for ws i u)) ≤ line_most
     go true u = nothing_short
-    go false (request.Is asked) = kept_short _ few
-    go false request.Nothing = nothing_short
+    go false (Some asked) = kept_short _ few
+    go false None = nothing_short
 
 lines_short : (ws : List ℕ) (m i : ℕ) → i + m ≤ slots_most → length (lines_from ws m i) ≤ m * line_most
 unfolding lines_from

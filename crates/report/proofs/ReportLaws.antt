@@ -2,6 +2,8 @@
 --     no_line, kept_line, no_request       a slot's line
 --     report_malformed, report_short, header_room, lines_room, report_whole  the report
 -- Assumes: nothing.
+use Rattle.answers.specs.declared.refusals.Refusal.TheVariants as refusal
+use Rattle.std.specs.Prelude.{Err, None, Ok, Option, Some}
 use Prim.Native.Nat.{ℕ, ◌+◌, ◌-◌, ◌≤◌, ◌<◌}
 use native.Mathlib.Omega.{arith}
 use mathlib.Core.Path.{◌≡◌, sym, ap, ◌∙◌}
@@ -11,8 +13,6 @@ use borrow.Author.Tests.{eq-eqb, ne_eqb, lt-ltb, le-ltb}
 use lib.ListN.{length, length-append}
 use Rattle.ids.specs.Packing.{unpacked}
 use Rattle.ids.specs.declared.Request.{Request}
-use Rattle.ids.specs.declared.Unpacked.{Unpacked}
-use Rattle.ids.specs.declared.Unpacked.TheVariants as request
 use Rattle.registers.specs.declared.Registers.{Registers}
 use Rattle.answers.specs.declared.Outcome.{Outcome}
 use Rattle.answer_words.specs.AnswerWords.{outcome_of}
@@ -23,32 +23,31 @@ use Rattle.placed.proofs.PlacedLaws.{placed_length, placed_then}
 use Rattle.report_cells.specs.Cells.{line_text}
 use Rattle.report_cells.specs.declared.Line.TheVariants as line
 use Rattle.report.specs.Report.{line_at, line_for, lines_from, report_text, report_says, Reported, Put}
-use Rattle.report.specs.declared.Written.TheVariants.{Refused, Length}
 
 module _ (ws : List ℕ) (i : ℕ) where
   pub no_line : key_at ws i ≡ 0 → line.Nothing ≡ line_at ws i
   unfolding line_at
   no_line is = simp (eq-eqb _ _ is)
 
-  module _ (held : key_at ws i ≡ 0 → ⊥) {u : Unpacked} (said : u ≡ unpacked (key_at ws i - 1)) where
-    pub no_request : u ≡ request.Nothing → line.Nothing ≡ line_at ws i
+  module _ (held : key_at ws i ≡ 0 → ⊥) {u : Option Request} (said : u ≡ unpacked (key_at ws i - 1)) where
+    pub no_request : u ≡ None → line.Nothing ≡ line_at ws i
     unfolding line_at line_for
     no_request is = simp (ne_eqb _ _ held, ← said, is)
 
     pub kept_line :
-        {asked : Request} {r : Registers} {block : List ℕ} {o : Outcome} → u ≡ request.Is asked → r ≡ registers_of ws
+        {asked : Request} {r : Registers} {block : List ℕ} {o : Outcome} → u ≡ Some asked → r ≡ registers_of ws
         → block ≡ block_at ws i → o ≡ outcome_of block
         → line.Kept (record { slot = i; registers = r; request = asked; outcome = o }) ≡ line_at ws i
     unfolding line_at line_for
     kept_line is regs words out = simp (ne_eqb _ _ held, ← said, is, out, words, regs)
 
 module _ (ws : List ℕ) (q : List ℕ) {bad : Bool} (said : bad ≡ refusal7 ws) where
-  pub report_malformed : bad ≡ true → Reported ws q (Refused 7) q
+  pub report_malformed : bad ≡ true → Reported ws q (Err refusal.Malformed) q
   unfolding report_says
   report_malformed is = let e : refusal7 ws ≡ true = sym said ∙ is in record { result = simp e; buffer = simp e }
 
   module _ (is : bad ≡ false) {size : ℕ} (counted : size ≡ length (report_text ws)) where
-    pub report_short : length q < size → Reported ws q (Refused 8) q
+    pub report_short : length q < size → Reported ws q (Err refusal.Room) q
     unfolding report_says
     report_short short =
         let e : refusal7 ws ≡ false = sym said ∙ is in
@@ -73,7 +72,7 @@ module _ (ws : List ℕ) (q : List ℕ) {bad : Bool} (said : bad ≡ refusal7 ws
             omega arith
 
         pub report_whole :
-            {to : ℕ} {after : List ℕ} → Put (lines_from ws (slots_of ws) 0) mid start to after → Reported ws q (Length size) after
+            {to : ℕ} {after : List ℕ} → Put (lines_from ws (slots_of ws) 0) mid start to after → Reported ws q (Ok size) after
         unfolding report_says report_text
         report_whole {to} {after} lines =
             let e : refusal7 ws ≡ false = sym said ∙ is in

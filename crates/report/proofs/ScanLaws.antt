@@ -3,7 +3,8 @@
 --     lines_end, lines_step                      the lines of the slots
 --     cells_summed, cells_done, lines_summed, lines_done  the loops that count bytes
 --     whole_line, line_counted, text_counted     at the start of a loop
---     spelled_length, cells_length, columns_few, few_more  how many bytes and cells there are
+--     text_spelled                               a cell's text
+--     cells_length, columns_few, few_more        how many bytes and cells there are
 -- Assumes: nothing.
 use Prim.Native.Nat.{ℕ, ◌+◌, ◌-◌, ◌*◌, ◌≤◌, ◌<◌}
 use native.Mathlib.Omega.{arith}
@@ -13,6 +14,7 @@ use mathlib.Core.List.{List, [], ◌∷◌, ◌++◌}
 use lib.ListN.{get_or, length, length-append}
 use Rattle.number_laws.proofs.Scans.{left_none, left_one}
 use Rattle.book_words.specs.Layout.{slots_of}
+use Rattle.placed.specs.From.{from}
 use Rattle.placed.proofs.FromLaws.{values_length}
 use Rattle.report_cells.specs.Text.{Spells, cell_most}
 use Rattle.report_cells.specs.Cells.{columns, cell_text, cells_from, columns_of, ending_of, line_text}
@@ -40,17 +42,18 @@ module _ (ws : List ℕ) (n i : ℕ) where
   unfolding lines_from
   lines_step more = rw (left_one n i more)
 
-pub spelled_length : {cell : Cell} {t : List ℕ} → Spells cell t → length t ≡ cell.count
-spelled_length {cell} s = ap length (sym s.reads) ∙ values_length (λ j. get_or cell.byte j 0) cell.count 0
+-- the text of a cell is what the cell spells
+pub text_spelled : {cell : Cell} {t text : List ℕ} → Spells cell t → text ≡ from cell.byte cell.count 0 → text ≡ t
+text_spelled s read = read ∙ s.reads
 
 pub cells_length :
-    (line : Line) (n k : ℕ) {cell : Cell} → k < n → Spells cell (cell_text line k)
-    → length (cells_from line (n - k) k) ≡ cell.count + 1 + length (cells_from line (n - (k + 1)) (k + 1))
-cells_length line n k more s =
+    (line : Line) (n k : ℕ) {text : List ℕ} → k < n → text ≡ cell_text line k
+    → length (cells_from line (n - k) k) ≡ length text + 1 + length (cells_from line (n - (k + 1)) (k + 1))
+cells_length line n k more is =
     ap length (cells_step line n k more)
     ∙ length-append (cell_text line k ++ (ending_of k ∷ [])) _
     ∙ ap (λ (m : ℕ). m + length (cells_from line (n - (k + 1)) (k + 1))) (length-append (cell_text line k) (ending_of k ∷ []))
-    ∙ ap (λ (m : ℕ). m + 1 + length (cells_from line (n - (k + 1)) (k + 1))) (spelled_length s)
+    ∙ ap (λ (t : List ℕ). length t + 1 + length (cells_from line (n - (k + 1)) (k + 1))) (sym is)
 
 few_of : (line : Line) → columns_of line ≤ columns
 unfolding columns_of
@@ -81,9 +84,9 @@ text_counted ws {m} {n} long is =
 -- a sum and the length of what is left are the length of it all
 module _ (line : Line) (n k sum : ℕ) {all : ℕ} (so_far : sum + length (cells_from line (n - k) k) ≡ all) where
   pub cells_summed :
-      {cell : Cell} → k < n → Spells cell (cell_text line k)
-      → sum + cell.count + 1 + length (cells_from line (n - (k + 1)) (k + 1)) ≡ all
-  cells_summed more s = let l = cells_length line n k more s in omega arith
+      {cell : Cell} {text : List ℕ} → k < n → Spells cell (cell_text line k) → text ≡ from cell.byte cell.count 0
+      → sum + (length text + 1) + length (cells_from line (n - (k + 1)) (k + 1)) ≡ all
+  cells_summed more s read = let l = cells_length line n k more (text_spelled s read) in omega arith
 
   pub cells_done : n ≤ k → sum ≡ all
   cells_done past = let l : length (cells_from line (n - k) k) ≡ 0 = ap length (cells_end line n k past) in omega arith
@@ -101,5 +104,10 @@ module _ (ws : List ℕ) (n i sum : ℕ) {all : ℕ} (so_far : sum + length (lin
   lines_done past = let l : length (lines_from ws (n - i) i) ≡ 0 = ap length (lines_end ws n i past) in omega arith
 
 -- a cell and its ending have at most cell_most + 1 bytes
-pub few_more : (sum k : ℕ) {cell : Cell} {t : List ℕ} → Spells cell t → sum ≤ (cell_most + 1) * k → sum + cell.count + 1 ≤ (cell_most + 1) * (k + 1)
-few_more sum k s small = let f = s.few in omega arith
+pub few_more :
+    (sum k : ℕ) {cell : Cell} {t text : List ℕ} → Spells cell t → text ≡ from cell.byte cell.count 0 → sum ≤ (cell_most + 1) * k
+    → sum + (length text + 1) ≤ (cell_most + 1) * (k + 1)
+few_more sum k {cell} s read small =
+    let few = s.few in
+    let long = ap length read ∙ values_length (λ j. get_or cell.byte j 0) cell.count 0 in
+    omega arith

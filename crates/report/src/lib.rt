@@ -6,36 +6,33 @@ ghost use Rattle.std.specs.Prelude.{◌≡◌, ◌+◌, ◌≤◌, ◌<◌, get_
 ghost use Rattle.book_words.specs.Layout.{slots_most};
 ghost use Rattle.report.specs.Report.{Put, Reported, line_at, lines_from, report_text};
 
+use answers::Refusal;
 use book_words::{BOOK_WORDS, KEYS};
-use ids::{Request, Unpacked};
+use ids::Request;
+use put::Writer;
 use report_cells::{Entry, Line};
 
 mod put;
 
-// What a report says: a refusal's number, or the length that was written.
-#[derive(Clone, Copy)]
-pub enum Written {
-    Refused(u64),
-    Length(usize),
-}
-
-// Writes the report: refusals 7 and 8. The bytes after the text stay as they are.
-pub fn report(book: &[u64; BOOK_WORDS], out: &mut [u8]) -> Written
+// Writes the report, and says how long it is: refusals 7 and 8. The bytes after the text stay as they are.
+pub fn report(book: &[u64; BOOK_WORDS], out: &mut [u8]) -> Result<usize, Refusal>
     ensures { Reported book.now out.old result out.new }
 {
     if book_words::well::is_malformed(book) {
-        return Written::Refused(7);
+        return Err(Refusal::Malformed);
     }
     let size = text_length(book);
     if out.len() < size {
-        return Written::Refused(8);
+        return Err(Refusal::Room);
     }
-    let start = put::put_line(out, 0, Line::Header);
-    put_lines(book, out, start);
-    Written::Length(size)
+    let mut writer = Writer { out, at: 0 };
+    writer.put_line(Line::Header);
+    put_lines(book, &mut writer);
+    Ok(size)
 }
 
 // The line of a slot.
+#[tactic(auto, using(crate::proofs::ReportLaws::no_line, crate::proofs::ReportLaws::kept_line, crate::proofs::ReportLaws::no_request))]
 fn line_at(book: &[u64; BOOK_WORDS], i: usize) -> Line
     requires { i < slots_most }
     ensures { result ≡ line_at book.now i }
@@ -44,19 +41,16 @@ fn line_at(book: &[u64; BOOK_WORDS], i: usize) -> Line
     if key == 0 {
         return Line::Nothing;
     }
-    let unpacked = Request::unpack(key - 1);
-    let registers = book_words::registers_of(book);
+    let Some(request) = Request::unpack(key - 1) else {
+        return Line::Nothing;
+    };
     let block = book_words::block(book, i);
-    let outcome = answer_words::outcome_of(&block);
-    match unpacked {
-        Unpacked::Is(request) => Line::Kept(Entry {
-            slot: i as u64,
-            registers,
-            request,
-            outcome,
-        }),
-        Unpacked::Nothing => Line::Nothing,
-    }
+    Line::Kept(Entry {
+        slot: i as u64,
+        registers: book_words::registers_of(book),
+        request,
+        outcome: answer_words::outcome_of(&block),
+    })
 }
 
 // How many bytes the text has.
@@ -66,27 +60,21 @@ fn text_length(book: &[u64; BOOK_WORDS]) -> usize
 {
     let slots = book[0] as usize;
     let mut sum = put::line_length(Line::Header);
-    let mut i: usize = 0;
-    while i < slots {
-        let line = line_at(book, i);
-        sum = sum + put::line_length(line);
-        i += 1;
+    for i in 0..slots {
+        sum += put::line_length(line_at(book, i));
     }
     sum
 }
 
-// Writes the lines of the held slots, from a place on.
-fn put_lines(book: &[u64; BOOK_WORDS], out: &mut [u8], at: usize) -> usize
-    requires { (get_or book.now 0 0 ≤ slots_most) × (at + length (lines_from book.now (get_or book.now 0 0) 0) ≤ length out.old) }
-    ensures { Put (lines_from book.now (get_or book.now 0 0) 0) out.old at result out.new }
+// Writes the lines of the held slots.
+fn put_lines(book: &[u64; BOOK_WORDS], writer: &mut Writer<'_>)
+    requires few { get_or book.now 0 0 ≤ slots_most }
+    requires room { writer.old.at + length (lines_from book.now (get_or book.now 0 0) 0) ≤ length writer.old.out.now }
+    ensures same_reference { writer.new.out.ghost_name ≡ writer.old.out.ghost_name }
+    ensures put { Put (lines_from book.now (get_or book.now 0 0) 0) writer.old.out.now writer.old.at writer.new.at writer.new.out.now }
 {
     let slots = book[0] as usize;
-    let mut to = at;
-    let mut i: usize = 0;
-    while i < slots {
-        let line = line_at(book, i);
-        to = put::put_line(out, to, line);
-        i += 1;
+    for i in 0..slots {
+        writer.put_line(line_at(book, i));
     }
-    to
 }

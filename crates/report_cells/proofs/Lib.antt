@@ -1,3 +1,2 @@
 -- Laws of specs/, for this crate and those above it.
 pub mod TextLaws
-pub mod CellsLaws

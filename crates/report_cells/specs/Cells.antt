@@ -2,10 +2,9 @@
 --     line_text       a line: its cells parted by one tab, and a line feed: start here
 --     cell_text       a line's cell in a column: 0 slot, 1 stream, 2 substream, 3 outcome, 4 event, 5 address
 -- Assumes: nothing.
-use Rattle.std.specs.Prelude.{ℕ, zero, suc, ◌+◌, ◌-◌, Bool, true, false, List, [], ◌∷◌, ◌++◌, eqb, if◌then◌else◌}
+use Rattle.std.specs.Prelude.{ℕ, zero, suc, ◌+◌, ◌-◌, Bool, true, false, List, [], ◌∷◌, ◌++◌, eqb, if◌then◌else◌, None, Option, Some}
+use Rattle.ids.specs.declared.SubstreamId.{SubstreamId}
 use Rattle.ids.specs.declared.Request.{Request}
-use Rattle.ids.specs.declared.Substream.{Substream}
-use Rattle.ids.specs.declared.Substream.TheVariants.{Without, With}
 use Rattle.registers.specs.declared.Registers.{Registers}
 use Rattle.answers.specs.Outcome.{recorded}
 use Rattle.answers.specs.declared.Outcome.{Outcome}
@@ -44,9 +43,9 @@ header_text column =
 unfoldable pub stream_text : Request → List ℕ
 stream_text request = hex_lower stream_digits request.stream.number
 
-abbrev pub substream_in : Substream → List ℕ
-substream_in Without = bytes "-"
-substream_in (With s) = hex_lower substream_digits s.number
+abbrev pub substream_in : Option SubstreamId → List ℕ
+substream_in None = bytes "-"
+substream_in (Some s) = hex_lower substream_digits s.number
 
 unfoldable pub substream_text : Request → List ℕ
 substream_text request = substream_in request.substream

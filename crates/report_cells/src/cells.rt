@@ -4,9 +4,9 @@ ghost use Rattle.report_cells.specs.Text.{Spells};
 ghost use Rattle.report_cells.specs.Cells.{abort_text, address_text, event_text, header_text, outcome_text, stream_text, substream_text};
 
 use super::Cell;
-use super::text::{decimal, hex_lower, hex_upper, word};
+use super::text::{HEX_LOWER, HEX_UPPER, decimal, digits, word};
 use answers::Outcome;
-use ids::{Request, Substream};
+use ids::Request;
 use registers::Registers;
 
 // How many digits a StreamID, a SubstreamID, an event and an address have.
@@ -19,6 +19,7 @@ const EVENT_DIGITS: usize = 2;
 const ADDRESS_DIGITS: usize = 16;
 
 // The columns' names.
+#[tactic(auto, using(crate::proofs::TextLaws::spells_as), unfolding(crate::specs::Cells::header_text))]
 pub fn header(column: usize) -> Cell
     ensures { Spells result (header_text column) }
 {
@@ -33,24 +34,26 @@ pub fn header(column: usize) -> Cell
 }
 
 // Lower-case hexadecimal digits.
+#[tactic(auto, unfolding(crate::specs::Cells::stream_text))]
 pub fn stream(request: Request) -> Cell
     ensures { Spells result (stream_text request) }
 {
-    hex_lower(STREAM_DIGITS, request.stream.number as u64)
+    digits(HEX_LOWER, STREAM_DIGITS, request.stream.number as u64)
 }
 
 // Lower-case hexadecimal digits, or `-`.
+#[tactic(auto, using(crate::proofs::TextLaws::spells_as), unfolding(crate::specs::Cells::substream_text))]
 pub fn substream(request: Request) -> Cell
     ensures { Spells result (substream_text request) }
 {
-    let substream = request.substream;
-    match substream {
-        Substream::Without => word(b"-"),
-        Substream::With(id) => hex_lower(SUBSTREAM_DIGITS, id.number),
+    match request.substream {
+        None => word(b"-"),
+        Some(id) => digits(HEX_LOWER, SUBSTREAM_DIGITS, id.number),
     }
 }
 
 // The outcome in one word.
+#[tactic(auto, using(crate::proofs::TextLaws::spells_as), unfolding(crate::specs::Cells::outcome_text))]
 pub fn kind(registers: Registers, outcome: Outcome) -> Cell
     ensures { Spells result (outcome_text registers outcome) }
 {
@@ -66,6 +69,7 @@ pub fn kind(registers: Registers, outcome: Outcome) -> Cell
 }
 
 // An abort, by whether its event is recorded.
+#[tactic(auto, using(crate::proofs::TextLaws::spells_as), unfolding(crate::specs::Cells::abort_text))]
 fn abort(recorded: bool) -> Cell
     ensures { Spells result (abort_text recorded) }
 {
@@ -76,6 +80,7 @@ fn abort(recorded: bool) -> Cell
 }
 
 // Upper-case hexadecimal digits for an event, the unserved number, or `-`.
+#[tactic(auto, using(crate::proofs::TextLaws::spells_as), unfolding(crate::specs::Cells::event_text))]
 pub fn event(outcome: Outcome) -> Cell
     ensures { Spells result (event_text outcome) }
 {
@@ -83,15 +88,15 @@ pub fn event(outcome: Outcome) -> Cell
         Outcome::Translate(_) => word(b"-"),
         Outcome::Bypass(_) => word(b"-"),
         Outcome::BypassGlobal => word(b"-"),
-        Outcome::Abort(number) => hex_upper(EVENT_DIGITS, number),
-        Outcome::Fault(number, _) => hex_upper(EVENT_DIGITS, number),
+        Outcome::Abort(number) => digits(HEX_UPPER, EVENT_DIGITS, number),
+        Outcome::Fault(number, _) => digits(HEX_UPPER, EVENT_DIGITS, number),
         Outcome::Quiet => word(b"-"),
         Outcome::Unserved(case) => decimal(case),
     }
 }
 
 // Lower-case hexadecimal digits for the address that a failed fetch wanted, or `-`.
-#[tactic(auto, using(crate::proofs::CellsLaws::address_spelled), unfolding(crate::specs::Cells::address_text))]
+#[tactic(auto, using(crate::proofs::TextLaws::spells_as), unfolding(crate::specs::Cells::address_text))]
 pub fn address(outcome: Outcome) -> Cell
     ensures { Spells result (address_text outcome) }
 {
@@ -100,7 +105,7 @@ pub fn address(outcome: Outcome) -> Cell
         Outcome::Bypass(_) => word(b"-"),
         Outcome::BypassGlobal => word(b"-"),
         Outcome::Abort(_) => word(b"-"),
-        Outcome::Fault(_, wanted) => hex_lower(ADDRESS_DIGITS, wanted),
+        Outcome::Fault(_, wanted) => digits(HEX_LOWER, ADDRESS_DIGITS, wanted),
         Outcome::Quiet => word(b"-"),
         Outcome::Unserved(_) => word(b"-"),
     }

@@ -2,8 +2,9 @@
 // Meets specs/Cells.antt; the digits and the words are those of specs/Text.antt.
 #![tactic(auto)]
 
-ghost use Rattle.std.specs.Prelude.{◌≡◌};
-ghost use Rattle.report_cells.specs.Text.{Spells};
+ghost use Rattle.std.specs.Prelude.{◌≡◌, ◌≤◌};
+ghost use Rattle.placed.specs.From.{from};
+ghost use Rattle.report_cells.specs.Text.{Spells, cell_most};
 ghost use Rattle.report_cells.specs.Cells.{cell_text, columns_of, ending_of, kept_text};
 
 use answers::Outcome;
@@ -16,14 +17,24 @@ mod text;
 // The most bytes that a cell has.
 pub const CELL_MOST: usize = 16;
 
-// How many cells a line has.
+// How many cells a line has. A column is a number: the report goes through them in order, and no caller names one.
 const COLUMNS: usize = 6;
 
-// The text of a cell: the first `count` of the bytes.
+// The text of a cell: the first `count` of the bytes. There is no allocator in the box, so it is no `String`.
 #[derive(Clone, Copy)]
 pub struct Cell {
     pub count: usize,
     pub byte: [u8; CELL_MOST],
+}
+
+impl Cell {
+    // The bytes of its text.
+    pub fn text(&self) -> &[u8]
+        requires { self.now.count ≤ cell_most }
+        ensures { result.now ≡ from self.now.byte self.now.count 0 }
+    {
+        &self.byte[..self.count]
+    }
 }
 
 // What a slot holds, and what its outcome is read by.
@@ -44,6 +55,7 @@ pub enum Line {
 }
 
 // How many cells a line has: an empty slot's has none.
+#[tactic(auto, unfolding(crate::specs::Cells::columns_of))]
 pub fn columns(line: Line) -> usize
     ensures { result ≡ columns_of line }
 {
@@ -55,6 +67,7 @@ pub fn columns(line: Line) -> usize
 }
 
 // The cell of a line in a column.
+#[tactic(auto, using(crate::proofs::TextLaws::spells_as), unfolding(crate::specs::Cells::cell_text))]
 pub fn cell_of(line: Line, column: usize) -> Cell
     ensures { Spells result (cell_text line column) }
 {
@@ -66,6 +79,7 @@ pub fn cell_of(line: Line, column: usize) -> Cell
 }
 
 // What follows the cell in a column: a line feed after the last, a tab after the others.
+#[tactic(auto, unfolding(crate::specs::Cells::ending_of))]
 pub fn ending(column: usize) -> u8
     ensures { result ≡ ending_of column }
 {
@@ -76,6 +90,7 @@ pub fn ending(column: usize) -> u8
 }
 
 // The cell of a held slot in a column.
+#[tactic(auto, using(crate::proofs::TextLaws::spells_as), unfolding(crate::specs::Cells::kept_text))]
 fn kept(entry: Entry, column: usize) -> Cell
     ensures { Spells result (kept_text entry column) }
 {

@@ -5,35 +5,32 @@
 use Prim.Native.Nat.{ℕ, ◌+◌, ◌-◌, ◌*◌, ◌/◌, ◌≤◌, ◌<◌}
 use native.Mathlib.Omega.{arith}
 use native.Mathlib.Nat.{div-lt_iff_lt-mul, le-div_iff_mul-le, mul_comm}
-use mathlib.Core.Path.{◌≡◌}
+use mathlib.Core.Path.{◌≡◌, ◌∙◌}
 use borrow.Author.Tests.{le-leb, lt-leb}
 use Rattle.script.specs.Place.{place_rule}
-use Rattle.script.specs.declared.edits.Place.TheVariants.{At, Outside}
+use Rattle.std.proofs.Common.{Option, Some, None}
 
 module _ (base length address times bytes : ℕ) where
-  pub place_before : address < base → Outside ≡ place_rule base length address times bytes
+  pub place_before : address < base → {r : Option ℕ} → r ≡ None → r ≡ place_rule base length address times bytes
   unfolding place_rule
-  place_before low = simp (lt-leb base address low)
+  place_before low none = simp (none, lt-leb base address low)
 
-  module _ (from : base ≤ address) where
-    outside : base + length < address + times * bytes → Outside ≡ place_rule base length address times bytes
+  module _ (from : base ≤ address) (some : 0 < times) where
+    outside : base + length < address + times * bytes → None ≡ place_rule base length address times bytes
     unfolding place_rule
     outside past = simp (le-leb base address from, lt-leb (address + times * bytes) (base + length) past)
 
-    module _ (some : 0 < times) where
-      pub place_after : length < address - base → Outside ≡ place_rule base length address times bytes
-      place_after past = outside (omega arith)
+    pub place_after :
+        length < address - base → {r : Option ℕ} → r ≡ None → r ≡ place_rule base length address times bytes
+    place_after past none = none ∙ outside (omega arith)
 
-      module _ (within : address - base ≤ length) where
-        pub place_past :
-            (length - (address - base)) / times < bytes → Outside ≡ place_rule base length address times bytes
-        place_past past = outside (omega (arith, (div-lt_iff_lt-mul some).0 past, mul_comm bytes times))
+    module _ {offset room : ℕ} (at : offset ≡ address - base) (left : room ≡ length - offset) (within : offset ≤ length) where
+      pub place_past : room / times < bytes → None ≡ place_rule base length address times bytes
+      place_past past = outside (omega (arith, (div-lt_iff_lt-mul some).0 past, mul_comm bytes times))
 
-        pub place_there :
-            bytes ≤ (length - (address - base)) / times
-            → At (address - base) ≡ place_rule base length address times bytes
-        unfolding place_rule
-        place_there room =
-            let fits : address + times * bytes ≤ base + length =
-            omega (arith, (le-div_iff_mul-le some).0 room, mul_comm bytes times) in
-            simp (le-leb base address from, le-leb (address + times * bytes) (base + length) fits)
+      pub place_there : bytes ≤ room / times → Some offset ≡ place_rule base length address times bytes
+      unfolding place_rule
+      place_there fits =
+          let end : address + times * bytes ≤ base + length =
+          omega (arith, (le-div_iff_mul-le some).0 fits, mul_comm bytes times) in
+          simp (at, le-leb base address from, le-leb (address + times * bytes) (base + length) end)

@@ -3,70 +3,54 @@ ghost use Rattle.std.specs.Prelude.{◌≡◌, ◌<◌};
 ghost use Rattle.script.specs.Place.{place_rule};
 
 use crate::Said;
-use crate::reasons::{Given, OUTSIDE_MEMORY, RIGHT, first, number_in, of_pairs};
+use crate::reasons::{Reason, both, number_in, pairs_in};
+use memory_image::Extent;
 
 // `write ADDRESS HEX`
-pub fn write(line: &[u8], base: u64, length: u64) -> Said {
+pub fn write(line: &[u8], lent: Extent) -> Result<Said<'_>, Reason> {
     let address = number_in(words::nth(line, 1), u64::MAX);
-    let once = Given {
-        wrong: RIGHT,
-        number: 1,
-    };
-    put(line, 2, address, once, base, length)
+    put(address, Ok(1), words::nth(line, 2), lent)
 }
 
 // `fill ADDRESS COUNT HEX`
-pub fn fill(line: &[u8], base: u64, length: u64) -> Said {
+pub fn fill(line: &[u8], lent: Extent) -> Result<Said<'_>, Reason> {
     let address = number_in(words::nth(line, 1), u64::MAX);
     let times = number_in(words::nth(line, 2), u64::MAX);
-    put(line, 3, address, times, base, length)
+    put(address, times, words::nth(line, 3), lent)
 }
 
 // The bytes of a word, put at an address so many times.
-fn put(line: &[u8], word: usize, address: Given, times: Given, base: u64, length: u64) -> Said {
-    let hex = words::nth(line, word);
-    let numbers = first(address.wrong, times.wrong);
-    let wrong = first(numbers, of_pairs(hex));
-    if wrong != RIGHT {
-        return Said::Wrong(wrong);
+fn put(
+    address: Result<u64, Reason>,
+    times: Result<u64, Reason>,
+    word: &[u8],
+    lent: Extent,
+) -> Result<Said<'_>, Reason> {
+    let (address, times) = both(address, times)?;
+    let pairs = pairs_in(word)?;
+    if times == 0 {
+        return Ok(Said::Nothing);
     }
-    if times.number == 0 {
-        return Said::Nothing;
-    }
-    let bytes = (hex.len() / 2) as u64;
-    match place_of(base, length, address.number, times.number, bytes) {
-        Place::At(at) => Said::Put {
-            offset: at,
-            times: times.number,
-            word,
-        },
-        Place::Outside => Said::Wrong(OUTSIDE_MEMORY),
-    }
+    let bytes = (pairs.len() / 2) as u64;
+    let offset = place_of(lent, address, times, bytes).ok_or(Reason::OutsideMemory)?;
+    Ok(Said::Put {
+        offset,
+        times,
+        pairs,
+    })
 }
 
-// Where an edit's bytes lie in the memory.
-#[derive(Clone, Copy)]
-enum Place {
-    At(u64),
-    Outside,
-}
-
-// Where so many bytes, so many times, lie from an address on, if they all lie in the memory. It computes
-// no sum and no product, so it is exact where these pass 2^64.
-fn place_of(base: u64, length: u64, address: u64, times: u64, bytes: u64) -> Place
+// Where so many bytes, so many times, lie from an address on, if they all lie in the lent memory. It
+// computes no sum and no product, so it is exact where these pass 2^64.
+#[tactic(auto, using(crate::proofs::PlaceLaws::place_before, crate::proofs::PlaceLaws::place_after, crate::proofs::PlaceLaws::place_past, crate::proofs::PlaceLaws::place_there))]
+fn place_of(lent: Extent, address: u64, times: u64, bytes: u64) -> Option<u64>
     requires { 0 < times }
-    ensures { result ≡ place_rule base length address times bytes }
+    ensures { result ≡ place_rule lent.base lent.length address times bytes }
 {
-    if address < base {
-        return Place::Outside;
-    }
-    let offset = address - base;
-    if length < offset {
-        return Place::Outside;
-    }
-    let room = length - offset;
+    let offset = address.checked_sub(lent.base)?;
+    let room = lent.length.checked_sub(offset)?;
     if room / times < bytes {
-        return Place::Outside;
+        return None;
     }
-    Place::At(offset)
+    Some(offset)
 }

@@ -1,13 +1,14 @@
-// What a line of a script says: what there is to do, nothing, or that it is wrong. Start at `read`.
+// What a line of a script says: what there is to do, nothing, or why it is wrong. Start at `read`.
 // That goes by the line and by where the lent memory lies. Nothing is done here.
 #![tactic(auto)]
 
 use edits::{fill, write};
 use ids::Request;
 use kept::{notice, open};
+use memory_image::Extent;
 use names::{Command, Register, command_of};
-use reasons::{NO_SUCH_COMMAND, TOO_FEW_WORDS, TOO_MANY_WORDS};
-use requests::{ask, lookup, part};
+use reasons::Reason;
+use requests::request;
 use settings::{memory, register};
 
 mod edits;
@@ -21,20 +22,18 @@ mod settings;
 pub const MEMORY_HELD: u64 = 65536;
 
 #[derive(Clone, Copy)]
-pub enum Said {
+pub enum Said<'a> {
     // An empty line, or a comment.
     Nothing,
-    // A line that is wrong, for that reason.
-    Wrong(u64),
     // A register gets a number, below 2^32 for each but STRTAB_BASE.
     Register(Register, u64),
-    // The lent memory gets a base and a length, at most MEMORY_HELD.
-    Memory(u64, u64),
-    // The bytes of a word go into the memory from an offset on, so many times.
+    // The lent memory is to lie there, and is at most MEMORY_HELD long.
+    Memory(Extent),
+    // The bytes that these pairs say go into the memory from an offset on, so many times.
     Put {
         offset: u64,
         times: u64,
-        word: usize,
+        pairs: &'a [u8],
     },
     Lookup(Request),
     Part(Request),
@@ -46,47 +45,31 @@ pub enum Said {
     Report,
 }
 
-// What a line says, where the lent memory has that base and length.
-pub fn read(line: &[u8], base: u64, length: u64) -> Said {
-    let count = words::count(line);
-    if count == 0 {
-        return Said::Nothing;
-    }
+// What a line says, where the lent memory lies there.
+pub fn read(line: &[u8], lent: Extent) -> Result<Said<'_>, Reason> {
     let name = words::nth(line, 0);
-    if is_comment(name) {
-        return Said::Nothing;
+    if name.is_empty() || name.starts_with(b"#") {
+        return Ok(Said::Nothing);
     }
-    let command = command_of(name);
-    match command {
-        Command::Register => counted(register(line), count, 3, 3),
-        Command::Memory => counted(memory(line), count, 3, 3),
-        Command::Write => counted(write(line, base, length), count, 3, 3),
-        Command::Fill => counted(fill(line, base, length), count, 4, 4),
-        Command::Lookup => counted(lookup(line, count), count, 2, 3),
-        Command::Part => counted(part(line, count), count, 2, 3),
-        Command::Open => counted(open(line), count, 2, 2),
-        Command::Ask => counted(ask(line, count), count, 2, 3),
-        Command::Notice => counted(notice(line), count, 3, 3),
-        Command::Report => counted(Said::Report, count, 1, 1),
-        Command::Unknown => Said::Wrong(NO_SUCH_COMMAND),
-    }
-}
-
-// Whether a line whose first word is this one is a comment.
-fn is_comment(name: &[u8]) -> bool {
-    if name.len() == 0 {
-        return false;
-    }
-    name[0] == b'#'
-}
-
-// What a line says whose command takes so many words, itself counted.
-fn counted(said: Said, count: usize, fewest: usize, most: usize) -> Said {
+    let command = command_of(name).ok_or(Reason::NoSuchCommand)?;
+    let count = words::count(line);
+    let (fewest, most) = command.words();
     if count < fewest {
-        return Said::Wrong(TOO_FEW_WORDS);
+        return Err(Reason::TooFewWords);
     }
     if most < count {
-        return Said::Wrong(TOO_MANY_WORDS);
+        return Err(Reason::TooManyWords);
     }
-    said
+    match command {
+        Command::Register => register(line),
+        Command::Memory => memory(line),
+        Command::Write => write(line, lent),
+        Command::Fill => fill(line, lent),
+        Command::Lookup => Ok(Said::Lookup(request(line, count)?)),
+        Command::Part => Ok(Said::Part(request(line, count)?)),
+        Command::Open => open(line),
+        Command::Ask => Ok(Said::Ask(request(line, count)?)),
+        Command::Notice => notice(line),
+        Command::Report => Ok(Said::Report),
+    }
 }

@@ -1,6 +1,6 @@
 // The names that a script uses: commands and registers.
 
-#[derive(Clone, Copy)]
+#[derive(Clone, Copy, Debug, PartialEq, Eq)]
 pub enum Command {
     Register,
     Memory,
@@ -12,50 +12,39 @@ pub enum Command {
     Ask,
     Notice,
     Report,
-    Unknown,
 }
 
-// The command that a word names.
-pub fn command_of(word: &[u8]) -> Command {
-    if check::same(word, b"register") {
-        return Command::Register;
+impl Command {
+    // The fewest and the most words that its line has, its name counted.
+    pub(crate) fn words(self) -> (usize, usize) {
+        match self {
+            Command::Report => (1, 1),
+            Command::Open => (2, 2),
+            Command::Lookup | Command::Part | Command::Ask => (2, 3),
+            Command::Register | Command::Memory | Command::Write | Command::Notice => (3, 3),
+            Command::Fill => (4, 4),
+        }
     }
-    if check::same(word, b"memory") {
-        return Command::Memory;
-    }
-    if check::same(word, b"write") {
-        return Command::Write;
-    }
-    if check::same(word, b"fill") {
-        return Command::Fill;
-    }
-    if check::same(word, b"lookup") {
-        return Command::Lookup;
-    }
-    if check::same(word, b"part") {
-        return Command::Part;
-    }
-    of_the_book(word)
 }
 
-// The command on the book that a word names.
-fn of_the_book(word: &[u8]) -> Command {
-    if check::same(word, b"open") {
-        return Command::Open;
+// The command that a word names, if any.
+pub fn command_of(word: &[u8]) -> Option<Command> {
+    match word {
+        b"register" => Some(Command::Register),
+        b"memory" => Some(Command::Memory),
+        b"write" => Some(Command::Write),
+        b"fill" => Some(Command::Fill),
+        b"lookup" => Some(Command::Lookup),
+        b"part" => Some(Command::Part),
+        b"open" => Some(Command::Open),
+        b"ask" => Some(Command::Ask),
+        b"notice" => Some(Command::Notice),
+        b"report" => Some(Command::Report),
+        _ => None,
     }
-    if check::same(word, b"ask") {
-        return Command::Ask;
-    }
-    if check::same(word, b"notice") {
-        return Command::Notice;
-    }
-    if check::same(word, b"report") {
-        return Command::Report;
-    }
-    Command::Unknown
 }
 
-#[derive(Clone, Copy)]
+#[derive(Clone, Copy, Debug, PartialEq, Eq)]
 pub enum Register {
     Idr0,
     Idr1,
@@ -65,34 +54,29 @@ pub enum Register {
     Gbpa,
     StrtabBase,
     StrtabBaseCfg,
-    Unknown,
 }
 
-// The register that a word names.
-pub fn register_of(word: &[u8]) -> Register {
-    if check::same(word, b"idr0") {
-        return Register::Idr0;
+impl Register {
+    // The largest number that it holds.
+    pub(crate) fn most(self) -> u64 {
+        match self {
+            Register::StrtabBase => u64::MAX,
+            _ => (1 << 32) - 1,
+        }
     }
-    if check::same(word, b"idr1") {
-        return Register::Idr1;
+}
+
+// The register that a word names, if any.
+pub fn register_of(word: &[u8]) -> Option<Register> {
+    match word {
+        b"idr0" => Some(Register::Idr0),
+        b"idr1" => Some(Register::Idr1),
+        b"idr5" => Some(Register::Idr5),
+        b"cr0" => Some(Register::Cr0),
+        b"cr2" => Some(Register::Cr2),
+        b"gbpa" => Some(Register::Gbpa),
+        b"strtab_base" => Some(Register::StrtabBase),
+        b"strtab_base_cfg" => Some(Register::StrtabBaseCfg),
+        _ => None,
     }
-    if check::same(word, b"idr5") {
-        return Register::Idr5;
-    }
-    if check::same(word, b"cr0") {
-        return Register::Cr0;
-    }
-    if check::same(word, b"cr2") {
-        return Register::Cr2;
-    }
-    if check::same(word, b"gbpa") {
-        return Register::Gbpa;
-    }
-    if check::same(word, b"strtab_base") {
-        return Register::StrtabBase;
-    }
-    if check::same(word, b"strtab_base_cfg") {
-        return Register::StrtabBaseCfg;
-    }
-    Register::Unknown
 }

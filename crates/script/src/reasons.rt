@@ -1,64 +1,71 @@
-// Why a line is wrong. The reasons are numbered in the order in which they apply: of two that a line
-// gives, the smaller is the line's.
-use words::numbers::{Value, is_pairs, number};
+// Why a line is wrong. Start at `Reason`.
+use std::fmt;
+use words::numbers::{NumberError, is_pairs, number};
 
-pub const LINE_TOO_LONG: u64 = 0;
-
-pub const NO_SUCH_COMMAND: u64 = 1;
-
-pub const TOO_FEW_WORDS: u64 = 2;
-
-pub const TOO_MANY_WORDS: u64 = 3;
-
-pub const NO_SUCH_REGISTER: u64 = 4;
-
-pub const NOT_A_NUMBER: u64 = 5;
-
-pub const NUMBER_TOO_LARGE: u64 = 6;
-
-pub const NOT_PAIRS: u64 = 7;
-
-pub const OUTSIDE_MEMORY: u64 = 8;
-
-// No reason: what was looked at is right.
-pub const RIGHT: u64 = 9;
-
-// The one of two reasons that applies.
-pub fn first(a: u64, b: u64) -> u64 {
-    if a < b { a } else { b }
+// The reasons stand in the order in which they apply: of two that a line gives, the lesser is the line's.
+#[derive(Clone, Copy, Debug, PartialEq, Eq, PartialOrd, Ord)]
+pub enum Reason {
+    LineTooLong,
+    NoSuchCommand,
+    TooFewWords,
+    TooManyWords,
+    NoSuchRegister,
+    NotANumber,
+    NumberTooLarge,
+    NotPairs,
+    OutsideMemory,
 }
 
-// A word taken as a number: what is wrong with it, and its value where nothing is.
-#[derive(Clone, Copy)]
-pub struct Given {
-    pub wrong: u64,
-    pub number: u64,
-}
-
-// The number that a word gives where one of at most `most` is asked for.
-pub fn number_in(word: &[u8], most: u64) -> Given {
-    let value = number(word);
-    match value {
-        Value::Is(n) => {
-            if most < n {
-                return refused(NUMBER_TOO_LARGE);
-            }
-            Given {
-                wrong: RIGHT,
-                number: n,
-            }
-        }
-        Value::TooLarge => refused(NUMBER_TOO_LARGE),
-        Value::NotOne => refused(NOT_A_NUMBER),
+impl fmt::Display for Reason {
+    fn fmt<W: fmt::Write>(&self, f: &mut fmt::Formatter<W>) -> fmt::Result {
+        f.write_str(match *self {
+            Reason::LineTooLong => "the line is too long",
+            Reason::NoSuchCommand => "no such command",
+            Reason::TooFewWords => "too few words",
+            Reason::TooManyWords => "too many words",
+            Reason::NoSuchRegister => "no such register",
+            Reason::NotANumber => "not a number",
+            Reason::NumberTooLarge => "the number is too large",
+            Reason::NotPairs => "not pairs of hexadecimal digits",
+            Reason::OutsideMemory => "outside the memory",
+        })
     }
 }
 
-// No number, for that reason.
-fn refused(wrong: u64) -> Given {
-    Given { wrong, number: 0 }
+impl From<NumberError> for Reason {
+    fn from(error: NumberError) -> Self {
+        match error {
+            NumberError::TooLarge => Reason::NumberTooLarge,
+            NumberError::NotANumber => Reason::NotANumber,
+        }
+    }
 }
 
-// What is wrong with a word where bytes are asked for.
-pub fn of_pairs(word: &[u8]) -> u64 {
-    if is_pairs(word) { RIGHT } else { NOT_PAIRS }
+// Both values, or of their reasons the one that applies.
+pub(crate) fn both<T: Copy, U: Copy>(
+    one: Result<T, Reason>,
+    other: Result<U, Reason>,
+) -> Result<(T, U), Reason> {
+    match (one, other) {
+        (Err(a), Err(b)) => Err(a.min(b)),
+        _ => Ok((one?, other?)),
+    }
+}
+
+// The number that a word gives where one of at most `most` is asked for.
+pub fn number_in(word: &[u8], most: u64) -> Result<u64, Reason> {
+    let n = number(word)?;
+    if most < n {
+        return Err(Reason::NumberTooLarge);
+    }
+    Ok(n)
+}
+
+// The word where bytes are asked for.
+pub(crate) fn pairs_in(word: &[u8]) -> Result<&[u8], Reason> {
+    if is_pairs(word) {
+        Ok(word)
+    } else {
+        Err(Reason::NotPairs)
+    }
 }

@@ -1,60 +1,26 @@
-// The lines that name a request: `lookup`, `part` and `ask`.
-use crate::Said;
-use crate::reasons::{NUMBER_TOO_LARGE, RIGHT, first, number_in};
-use ids::{MadeStream, Request, StreamId, Substream, SubstreamId};
+// The request that a line names: that of `lookup`, `part` and `ask`.
+use crate::reasons::{Reason, both, number_in};
+use ids::{Request, StreamId, SubstreamId};
 
-// `lookup STREAM [SUBSTREAM]`
-pub fn lookup(line: &[u8], count: usize) -> Said {
-    match asked(line, count) {
-        Made::Is(request) => Said::Lookup(request),
-        Made::Wrong(wrong) => Said::Wrong(wrong),
-    }
-}
-
-// `part STREAM [SUBSTREAM]`
-pub fn part(line: &[u8], count: usize) -> Said {
-    match asked(line, count) {
-        Made::Is(request) => Said::Part(request),
-        Made::Wrong(wrong) => Said::Wrong(wrong),
-    }
-}
-
-// `ask STREAM [SUBSTREAM]`
-pub fn ask(line: &[u8], count: usize) -> Said {
-    match asked(line, count) {
-        Made::Is(request) => Said::Ask(request),
-        Made::Wrong(wrong) => Said::Wrong(wrong),
-    }
-}
-
-// A request, or why there is none.
-#[derive(Clone, Copy)]
-enum Made {
-    Is(Request),
-    Wrong(u64),
-}
-
-// The request that a line's second and third word give.
-fn asked(line: &[u8], count: usize) -> Made {
-    let stream = number_in(words::nth(line, 1), (1 << StreamId::BITS) - 1);
+// `STREAM [SUBSTREAM]`, a line's second and third word.
+pub fn request(line: &[u8], count: usize) -> Result<Request, Reason> {
+    let stream = stream_in(words::nth(line, 1));
     if count < 3 {
-        return requested(stream.wrong, stream.number, Substream::Without);
+        return Ok(Request {
+            stream: stream?,
+            substream: None,
+        });
     }
     let substream = number_in(words::nth(line, 2), u64::MAX);
-    let wrong = first(stream.wrong, substream.wrong);
-    let id = SubstreamId {
-        number: substream.number,
-    };
-    requested(wrong, stream.number, Substream::With(id))
+    let (stream, number) = both(stream, substream)?;
+    Ok(Request {
+        stream,
+        substream: Some(SubstreamId { number }),
+    })
 }
 
-// The request of a stream with that number, unless something is wrong already.
-fn requested(wrong: u64, number: u64, substream: Substream) -> Made {
-    if wrong != RIGHT {
-        return Made::Wrong(wrong);
-    }
-    match StreamId::new(number) {
-        MadeStream::Made(stream) => Made::Is(Request { stream, substream }),
-        MadeStream::TooLarge => Made::Wrong(NUMBER_TOO_LARGE),
-    }
+// The StreamID that a word gives.
+fn stream_in(word: &[u8]) -> Result<StreamId, Reason> {
+    let number = number_in(word, u64::MAX)?;
+    StreamId::new(number).ok_or(Reason::NumberTooLarge)
 }

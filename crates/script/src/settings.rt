@@ -1,38 +1,20 @@
 // The lines that set something: `register` and `memory`.
-use crate::names::{Register, register_of};
-use crate::reasons::{NO_SUCH_REGISTER, RIGHT, first, number_in};
+use crate::names::register_of;
+use crate::reasons::{Reason, both, number_in};
 use crate::{MEMORY_HELD, Said};
+use memory_image::Extent;
 
 // `register NAME NUMBER`
-pub fn register(line: &[u8]) -> Said {
-    let named = register_of(words::nth(line, 1));
-    let most = most_of(named);
-    if most == 0 {
-        return Said::Wrong(NO_SUCH_REGISTER);
-    }
-    let value = number_in(words::nth(line, 2), most);
-    if value.wrong != RIGHT {
-        return Said::Wrong(value.wrong);
-    }
-    Said::Register(named, value.number)
-}
-
-// The largest number that a register holds; 0 where a word named none.
-fn most_of(named: Register) -> u64 {
-    match named {
-        Register::Unknown => 0,
-        Register::StrtabBase => u64::MAX,
-        _ => (1 << 32) - 1,
-    }
+pub fn register(line: &[u8]) -> Result<Said<'_>, Reason> {
+    let named = register_of(words::nth(line, 1)).ok_or(Reason::NoSuchRegister)?;
+    let value = number_in(words::nth(line, 2), named.most())?;
+    Ok(Said::Register(named, value))
 }
 
 // `memory BASE LENGTH`
-pub fn memory(line: &[u8]) -> Said {
+pub fn memory(line: &[u8]) -> Result<Said<'_>, Reason> {
     let base = number_in(words::nth(line, 1), u64::MAX);
     let length = number_in(words::nth(line, 2), MEMORY_HELD);
-    let wrong = first(base.wrong, length.wrong);
-    if wrong != RIGHT {
-        return Said::Wrong(wrong);
-    }
-    Said::Memory(base.number, length.number)
+    let (base, length) = both(base, length)?;
+    Ok(Said::Memory(Extent { base, length }))
 }

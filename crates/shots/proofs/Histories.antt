@@ -1,6 +1,8 @@
 -- The claims of specs/Histories.antt, each under its own name.
 -- Assumes: nothing.
 use Prim.Native.Nat.{ℕ, zero, suc, ◌+◌, ◌^◌, ◌≤◌, ◌<◌, ◌-◌}
+use Rattle.answers.specs.declared.refusals.Refusal.TheVariants as refusal
+use Rattle.answers.specs.declared.refusals.Refusal.{Refusal}
 use native.Mathlib.Omega.{arith}
 use native.Mathlib.Nat.{zero-add}
 use mathlib.Core.Path.{◌≡◌, refl, sym, ap, ◌∙◌}
@@ -10,18 +12,18 @@ use mathlib.Core.Logic.{inr}
 use borrow.Author.Tests.{eqb-true, eq-eqb, ne_eqb, le-leb, lt-ltb, le-ltb}
 use lib.Dec.{eqb, leb, ltb}
 use lib.ListN.{length, get_or}
-use Rattle.std.specs.Prelude.{if◌then◌else◌}
+use Rattle.std.specs.Prelude.{if◌then◌else◌, Err, Ok, Result, Some, ⊤}
 use Rattle.number_laws.proofs.Tests.{not_both}
 use Rattle.placed.specs.From.{values_from, tab}
 use Rattle.placed.proofs.FromLaws.{values_same}
 use Rattle.ids.specs.Ids.{refusal3}
 use Rattle.ids.specs.Packing.{packed, unpacked}
 use Rattle.ids.specs.declared.Request.{Request}
-use Rattle.ids.specs.declared.Unpacked.TheVariants.{Is}
 use Rattle.registers.proofs.WordsLaws.{narrow_all}
 use Rattle.registers.specs.Sizes.{refusal1, size_of, oas_size}
 use Rattle.registers.specs.declared.Registers.{Registers}
-use Rattle.memory_image.specs.Extent.{Extent, address_top, refusal2, fetched}
+use Rattle.memory_image.specs.Extent.{address_top, refusal2, fetched}
+use Rattle.memory_image.specs.declared.Extent.{Extent}
 use Rattle.memory_image.specs.Rule.{Ran, run, and_then}
 use Rattle.memory_image.specs.Words.{word}
 use Rattle.answers.specs.Pieces.{pieces_of}
@@ -35,15 +37,12 @@ use Rattle.context_table.specs.ContextTable.{context_rule, leaf_bits, two_level_
 use Rattle.context_entry.specs.ContextEntry.{cd_rule, effective_ips}
 use Rattle.lookup.specs.Lookup.{lookup_rule, from_ste, from_entry, from_cd, answered, looked_up}
 use Rattle.lookup.specs.declared.Looked.{Looked}
-use Rattle.lookup.specs.declared.Answer.TheVariants as looked
 use Rattle.book_words.specs.Layout.{slots_most, book_words, keys_from, base_of, length_of, extent_held, copied, kept_at, other_extent, slots_of, key_at, key_of, registers_of, block_at, opened_with}
 use Rattle.book_words.specs.Malformed.{first_from, refusal7}
 use Rattle.book.specs.Book.{open_says, ask_book, refused_with, shares, shared_from, touched, struck_from, Opened, Asks, Noticed}
 use Rattle.book.specs.declared.Asked.{Asked}
 use Rattle.book.specs.declared.Reply.{Reply}
 use Rattle.book.specs.declared.Reply.TheVariants as reply
-use Rattle.book.specs.declared.Said.{Said}
-use Rattle.book.specs.declared.Said.TheVariants as said
 use Rattle.report_cells.specs.Text.{decimal_text, slot_text, digits}
 use Rattle.report_cells.specs.Cells.{line_text, cells_from, columns_of, ending_of, cell_text, header_text, kept_text, stream_text, substream_text, outcome_text, abort_text, event_text, address_text}
 use Rattle.report.specs.Report.{report_text, lines_from, line_at, line_for}
@@ -89,29 +88,29 @@ module _ {ws : List ℕ} (book : Booked ws) where
       let length_is : length_of ws ≡ 0x10000 = ap (λ (e : Extent). e.length) extent_is in
       rw (size, base, length_is)
 
-record AskedBy (told : Reply) (s : State) (base : ℕ) (memory after : List ℕ) : Type 0 where
+record AskedBy (told : Result Reply Refusal) (s : State) (base : ℕ) (memory after : List ℕ) : Type 0 where
   words : (asking told s base memory after).words ≡ after
   registers : (asking told s base memory after).registers ≡ s.registers
   extent : (asking told s base memory after).extent ≡ s.extent
 
-asked_by : (told : Reply) (s : State) (base : ℕ) (memory after : List ℕ) → AskedBy told s base memory after
-asked_by (reply.Refused n) s base memory after = record { words = refl; registers = refl; extent = refl }
-asked_by (reply.KeptBefore outcome) s base memory after = record { words = refl; registers = refl; extent = refl }
-asked_by (reply.NewlyKept outcome) s base memory after = record { words = refl; registers = refl; extent = refl }
-asked_by (reply.NotKept outcome) s base memory after = record { words = refl; registers = refl; extent = refl }
+asked_by : (told : Result Reply Refusal) (s : State) (base : ℕ) (memory after : List ℕ) → AskedBy told s base memory after
+asked_by (Err n) s base memory after = record { words = refl; registers = refl; extent = refl }
+asked_by (Ok (reply.KeptBefore outcome)) s base memory after = record { words = refl; registers = refl; extent = refl }
+asked_by (Ok (reply.NewlyKept outcome)) s base memory after = record { words = refl; registers = refl; extent = refl }
+asked_by (Ok (reply.NotKept outcome)) s base memory after = record { words = refl; registers = refl; extent = refl }
 
 noticed_by :
-    (told : Said) (s : State) (begin size : ℕ) (after : List ℕ)
+    (told : Result ⊤ Refusal) (s : State) (begin size : ℕ) (after : List ℕ)
     → ((noticing told s begin size after).words ≡ after) × ((noticing told s begin size after).extent ≡ s.extent)
-noticed_by (said.Refused n) s begin size after = (refl, refl)
-noticed_by said.Done s begin size after = (refl, refl)
+noticed_by (Err n) s begin size after = (refl, refl)
+noticed_by (Ok done) s begin size after = (refl, refl)
 
 -- an opening of a bench with these bytes, an ask, a notice
-module _ (r : Registers) (narrow : Narrow r) (slots : ℕ) (before opened : List ℕ) (bytes : ℕ → ℕ) (opens : Opened r whole slots before said.Done opened) where
+module _ (r : Registers) (narrow : Narrow r) (slots : ℕ) (before opened : List ℕ) (bytes : ℕ → ℕ) (opens : Opened r whole slots before (Ok tt) opened) where
   bench_before : State
   bench_before = record { words = before; memory = bytes; unnoticed = λ a. false; registers = r; extent = whole }
 
-  opened_begun : Begun (opening said.Done bench_before r whole opened)
+  opened_begun : Begun (opening (Ok tt) bench_before r whole opened)
   unfolding bench_before
   opened_begun =
       record {
@@ -126,11 +125,11 @@ module _ (r : Registers) (narrow : Narrow r) (slots : ℕ) (before opened : List
       }
 
   opened_booked : Booked opened
-  opened_booked = record { bench = opening said.Done bench_before r whole opened; begun = opened_begun; same = refl; whole_is = refl }
+  opened_booked = record { bench = opening (Ok tt) bench_before r whole opened; begun = opened_begun; same = refl; whole_is = refl }
 
-  opened_is : open_says r whole slots ≡ said.Done → opened ≡ opened_with r whole slots
+  opened_is : open_says r whole slots ≡ Ok tt → opened ≡ opened_with r whole slots
   opened_is taken =
-      (one_opening r whole slots before said.Done said.Done opened (opened_with r whole slots) opens (record { result = sym taken; book = rw taken })).1
+      (one_opening r whole slots before (Ok tt) (Ok tt) opened (opened_with r whole slots) opens (record { result = sym taken; book = rw taken })).1
 
 module _ {ws : List ℕ} (book : Booked ws) where
   asked_booked :
@@ -145,7 +144,7 @@ module _ {ws : List ℕ} (book : Booked ws) where
         whole_is = (asked_by told.reply book.bench base memory after).extent ∙ book.whole_is;
       }
 
-  noticed_booked : (begin size : ℕ) (told : Said) (after : List ℕ) → Noticed ws begin size told after → Booked after
+  noticed_booked : (begin size : ℕ) (told : Result ⊤ Refusal) (after : List ℕ) → Noticed ws begin size told after → Booked after
   noticed_booked begin size told after promise =
       let there : Noticed book.bench.words begin size told after = rw book.same promise in
       record {
@@ -156,17 +155,17 @@ module _ {ws : List ℕ} (book : Booked ws) where
       }
 
   -- a notice below 2^52 is taken, and strikes what it touches
-  taken : (begin size : ℕ) (told : Said) (after : List ℕ) → begin + size ≤ address_top → Noticed ws begin size told after → told ≡ said.Done
+  taken : (begin size : ℕ) (told : Result ⊤ Refusal) (after : List ℕ) → begin + size ≤ address_top → Noticed ws begin size told after → told ≡ Ok tt
   taken begin size told after low promise =
       let there : Noticed book.bench.words begin size told after = rw book.same promise in
       (never_refused_seven book.bench book.begun).noticed begin size told after there ∙ rw (le-ltb _ _ low)
 
   key_left :
-      (begin size : ℕ) (told : Said) (after : List ℕ) → begin + size ≤ address_top → Noticed ws begin size told after
+      (begin size : ℕ) (told : Result ⊤ Refusal) (after : List ℕ) → begin + size ≤ address_top → Noticed ws begin size told after
       → (i : ℕ) → i < slots_most → key_at after i ≡ (if touched ws begin size i then 0 else key_at ws i)
   key_left begin size told after low promise i small = go (touched ws begin size i) refl
     where
-      there : Noticed ws begin size said.Done after
+      there : Noticed ws begin size (Ok tt) after
       there = rw (taken begin size told after low promise) at promise
 
       go : (t : Bool) → touched ws begin size i ≡ t → key_at after i ≡ (if t then 0 else key_at ws i)
@@ -317,8 +316,8 @@ record Computed : Type 0 where
   for_three : Ready stage1 4 staged0 (substreamed 255) 0
   for_four : Ready stage1 4 staged1 (substreamed 70) 1
   for_two : Ready stage1 4 staged2 (plainly 256) 2
-  plain_taken : open_says plain whole 2 ≡ said.Done
-  stage1_taken : open_says stage1 whole 4 ≡ said.Done
+  plain_taken : open_says plain whole 2 ≡ Ok tt
+  stage1_taken : open_says stage1 whole 4 ≡ Ok tt
 
 computed : Computed
 unfolding registers_of opened_with first_from block_at values_from copied packed laid_out words_of pieces_of open_says refusal1 refusal2 refusal3 size_of oas_size shot_188 shot_256 shot_three shot_four fresh held1 alone staged0 staged1 staged2
@@ -381,7 +380,7 @@ module _ (ws : List ℕ) (two : TwoAsked 188 256 ws) where
 
   -- the keys that a notice leaves
   left :
-      (begin : ℕ) → begin + 1 ≤ address_top → (told : Said) (after : List ℕ) → Noticed ws begin 1 told after
+      (begin : ℕ) → begin + 1 ≤ address_top → (told : Result ⊤ Refusal) (after : List ℕ) → Noticed ws begin 1 told after
       → (key_at after 0 ≡ (if touched held2 begin 1 0 then 0 else key_at held2 0)) × (key_at after 1 ≡ (if touched held2 begin 1 1 then 0 else key_at held2 1))
   left begin low told after promise =
       let there : Noticed held2 begin 1 told after = rw two_words at promise in
@@ -454,21 +453,21 @@ module _ (ws : List ℕ) (two : TwoAsked 188 256 ws) where
       no_empty (suc zero) is = let k = is.1 in omega arith
       no_empty (suc (suc i)) is = let b = is.0 in omega arith
 
-      full : (told : Asked) (after : List ℕ) → Asks held2 0 bench_memory (plainly 768) told after → (told.reply ≡ reply.NotKept (Bypass 0x4000)) × (after ≡ held2)
+      full : (told : Asked) (after : List ℕ) → Asks held2 0 bench_memory (plainly 768) told after → (told.reply ≡ Ok (reply.NotKept (Bypass 0x4000))) × (after ≡ held2)
       full told after promise =
           let accepted = accepts held2 0 bench_memory (plainly 768) told after (well two_booked) (here two_booked bench_memory (tab_length 0x10000 (byte_of figure))) refl promise in
           let new = new_in_lowest held2 0 bench_memory (plainly 768) told after (long two_booked) promise accepted unheld in
           let none = new.full no_empty in
-          let answer : looked.Is none.outcome ≡ looked.Is (Bypass 0x4000) = sym (ap answer_in none.told) ∙ ap (λ (l : Looked). l.answer) (new.by_lookup ∙ looked_768) in
+          let answer : Ok none.outcome ≡ Ok (Bypass 0x4000) = sym (ap answer_in none.told) ∙ ap (λ (l : Looked). l.answer) (new.by_lookup ∙ looked_768) in
           let same : none.outcome ≡ Bypass 0x4000 = cc in
-          (none.told ∙ ap reply.NotKept same, none.same)
+          (none.told ∙ ap (λ (o : Outcome). Ok (reply.NotKept o)) same, none.same)
 
-      other : (memory : List ℕ) (told : Asked) (after : List ℕ) → Asks held2 64 memory (plainly 768) told after → (told ≡ refused_with 6) × (after ≡ held2)
+      other : (memory : List ℕ) (told : Asked) (after : List ℕ) → Asks held2 64 memory (plainly 768) told after → (told ≡ refused_with refusal.OtherMemory) × (after ≡ held2)
       other memory told after promise =
           let there : Asks two_booked.bench.words 64 memory (plainly 768) told after = rw two_booked.same promise in
-          let refused : told ≡ refused_with 6
+          let refused : told ≡ refused_with refusal.OtherMemory
           = (never_refused_seven two_booked.bench two_booked.begun).asked_for 64 memory (plainly 768) told after there (rw two_booked.same) in
-          (refused, (holds_what_it_held 6).asked_for held2 64 memory (plainly 768) told after promise (ap (λ (a : Asked). a.reply) refused))
+          (refused, (holds_what_it_held refusal.OtherMemory).asked_for held2 64 memory (plainly 768) told after promise (ap (λ (a : Asked). a.reply) refused))
 
 -- a book of four slots, with lists of three, of four and of two
 module _ (ws : List ℕ) (staged : Staged ws) where
@@ -511,7 +510,7 @@ module _ (ws : List ℕ) (staged : Staged ws) where
 
   -- the key that a notice leaves in a slot
   stays :
-      (begin : ℕ) → begin + 1 ≤ address_top → (told : Said) (after : List ℕ) → Noticed ws begin 1 told after
+      (begin : ℕ) → begin + 1 ≤ address_top → (told : Result ⊤ Refusal) (after : List ℕ) → Noticed ws begin 1 told after
       → (i : ℕ) → i < slots_most → key_at after i ≡ (if touched staged3 begin 1 i then 0 else key_at staged3 i)
   stays begin low told after promise i small =
       let there : Noticed staged3 begin 1 told after = rw staged_is at promise in key_left book_3 begin 1 told after low there i small
@@ -554,7 +553,7 @@ nothing_differs bs s is a =
         none true = refl
         none false = refl
 
-calm_asked : (bs : List (ℕ × ℕ)) (s : State) → Calm bs s → (told : Reply) (after : List ℕ) → Calm bs (asking told s 0 (memory_of bs) after)
+calm_asked : (bs : List (ℕ × ℕ)) (s : State) → Calm bs s → (told : Result Reply Refusal) (after : List ℕ) → Calm bs (asking told s 0 (memory_of bs) after)
 calm_asked bs s calm told after = go told
   where
     handed : Calm bs (holding (handing s 0 (memory_of bs)) after)
@@ -564,19 +563,19 @@ calm_asked bs s calm told after = go told
           clean = λ a. rw (nothing_differs bs s calm.bytes a) (calm.clean a);
         }
 
-    go : (told : Reply) → Calm bs (asking told s 0 (memory_of bs) after)
-    go (reply.Refused n) = record { bytes = calm.bytes; clean = calm.clean }
-    go (reply.KeptBefore outcome) = handed
-    go (reply.NewlyKept outcome) = handed
-    go (reply.NotKept outcome) = handed
+    go : (told : Result Reply Refusal) → Calm bs (asking told s 0 (memory_of bs) after)
+    go (Err n) = record { bytes = calm.bytes; clean = calm.clean }
+    go (Ok (reply.KeptBefore outcome)) = handed
+    go (Ok (reply.NewlyKept outcome)) = handed
+    go (Ok (reply.NotKept outcome)) = handed
 
 -- what slot 0 holds after an ask for 256
 record Holds (shot : Ran Outcome) (words : List ℕ) : Type 0 where
   key_is : key_at words 0 ≡ key 256
   below : 0 < slots_of words
-  request_is : unpacked (key_at words 0 - 1) ≡ Is (plainly 256)
+  request_is : unpacked (key_at words 0 - 1) ≡ Some (plainly 256)
   list_is : list_of (block_at words 0) ≡ pieces_of shot.list
-  told_is : record { answer = looked.Is (outcome_of (block_at words 0)); list = list_of (block_at words 0) } ≡ answered shot
+  told_is : record { answer = Ok (outcome_of (block_at words 0)); list = list_of (block_at words 0) } ≡ answered shot
 
 holds_alone : Holds shot_256 alone
 unfolding opened_with block_at values_from copied packed unpacked laid_out words_of outcome_of list_of pieces_of shot_256 fresh alone
@@ -589,7 +588,7 @@ holds_away = record { key_is = refl; below = omega arith; request_is = refl; lis
 -- 256 was asked, and then its tables are written to
 module _ (bs : List (ℕ × ℕ)) (ws : List ℕ) (one : OneAskedIn bs 256 ws) where
   asked_bench : State
-  asked_bench = asking one.told.reply (opening said.Done (bench_before plain plain_narrow 2 one.before one.opened (byte_of bs) one.opens) plain whole one.opened) 0 (memory_of bs) ws
+  asked_bench = asking one.told.reply (opening (Ok tt) (bench_before plain plain_narrow 2 one.before one.opened (byte_of bs) one.opens) plain whole one.opened) 0 (memory_of bs) ws
 
   asked_begun : Begun asked_bench
   unfolding asked_bench bench_before
@@ -602,7 +601,7 @@ module _ (bs : List (ℕ × ℕ)) (ws : List ℕ) (one : OneAskedIn bs 256 ws) w
   asked_there : (asked_bench.words ≡ ws) × (asked_bench.registers ≡ plain) × (asked_bench.extent ≡ whole)
   unfolding asked_bench bench_before
   asked_there =
-      let by = asked_by one.told.reply (opening said.Done (bench_before plain plain_narrow 2 one.before one.opened (byte_of bs) one.opens) plain whole one.opened) 0 (memory_of bs) ws in
+      let by = asked_by one.told.reply (opening (Ok tt) (bench_before plain plain_narrow 2 one.before one.opened (byte_of bs) one.opens) plain whole one.opened) 0 (memory_of bs) ws in
       (by.words, by.registers, by.extent)
 
   -- a byte of the tables is edited, and the edit is noticed: nothing lacks its notice
@@ -611,7 +610,7 @@ module _ (bs : List (ℕ × ℕ)) (ws : List ℕ) (one : OneAskedIn bs 256 ws) w
     edited_bench = editing asked_bench (λ a. eqb at a) (λ a. byte)
 
     noticed_bench : List ℕ → State
-    noticed_bench struck = noticing said.Done edited_bench at 1 struck
+    noticed_bench struck = noticing (Ok tt) edited_bench at 1 struck
 
     all_noticed : (struck : List ℕ) (a : ℕ) → (handing (noticed_bench struck) 0 (memory_of ((at, byte) ∷ bs))).unnoticed a ≡ false
     unfolding edited_bench noticed_bench
@@ -633,9 +632,9 @@ module _ (bs : List (ℕ × ℕ)) (ws : List ℕ) (one : OneAskedIn bs 256 ws) w
     caught low looked_now told struck noticed answer after promise =
         let there = asked_there in
         let booked = booked_256 bs ws one in
-        let done : Noticed ws at 1 said.Done struck = rw (taken booked at 1 told struck (omega arith) noticed) at noticed in
-        let done' : Noticed asked_bench.words at 1 said.Done struck = rw there.0 done in
-        let begun : Begun (noticed_bench struck) = later (later asked_begun (edit (λ a. eqb at a) (λ a. byte))) (notice at 1 said.Done struck done') in
+        let done : Noticed ws at 1 (Ok tt) struck = rw (taken booked at 1 told struck (omega arith) noticed) at noticed in
+        let done' : Noticed asked_bench.words at 1 (Ok tt) struck = rw there.0 done in
+        let begun : Begun (noticed_bench struck) = later (later asked_begun (edit (λ a. eqb at a) (λ a. byte))) (notice at 1 (Ok tt) struck done') in
         let now : Booked struck = record { bench = noticed_bench struck; begun = begun; same = refl; whole_is = there.2 } in
         let memory = memory_of ((at, byte) ∷ bs) in
         let accepted = accepts struck 0 memory (plainly 256) answer after (well now) (here now memory (tab_length 0x10000 (byte_of ((at, byte) ∷ bs)))) refl promise in
@@ -685,7 +684,7 @@ module _ (ws : List ℕ) (one : OneAsked 256 ws) where
       let good =
       still_good (besides_bench other) begun 0 (omega arith) (λ none. let z = sym (ap (λ (words : List ℕ). key_at words 0) there.0) ∙ none in omega arith) clean (plainly 256)
       (rw there.0 h.request_is) in
-      let good' : looked_up plain 0 memory (plainly 256) ≡ record { answer = looked.Is (outcome_of (block_at ws 0)); list = list_of (block_at ws 0) }
+      let good' : looked_up plain 0 memory (plainly 256) ≡ record { answer = Ok (outcome_of (block_at ws 0)); list = list_of (block_at ws 0) }
       = rw (today_is other, there.0, there.1, there.2) at good in
       (ap looked_in from.0 ∙ h.told_is, good' ∙ h.told_is)
 
@@ -704,9 +703,9 @@ module _ (ws : List ℕ) (one : OneAskedIn past_the_end 256 ws) where
             let booked = booked_256 past_the_end ws one in
             let accepted = accepts ws 0 memory (plainly 256) told after (well booked) (here booked memory (tab_length 0x10000 (byte_of ((0x800a, 0x02) ∷ past_the_end)))) refl promise in
             let from = kept_from_its_slot ws 0 memory (plainly 256) told after promise accepted 0 (record { below = h.below; key = h.key_is }) in
-            let held : looked.Is (outcome_of (block_at ws 0)) ≡ looked.Is (Fault f_ste_fetch 0x12f00) = ap (λ (l : Looked). l.answer) h.told_is in
+            let held : Ok (outcome_of (block_at ws 0)) ≡ Ok (Fault f_ste_fetch 0x12f00) = ap (λ (l : Looked). l.answer) h.told_is in
             let same : outcome_of (block_at ws 0) ≡ Fault f_ste_fetch 0x12f00 = cc in
-            ap (λ (a : Asked). a.reply) from.0 ∙ ap reply.KeptBefore same;
+            ap (λ (a : Asked). a.reply) from.0 ∙ ap (λ (o : Outcome). Ok (reply.KeptBefore o)) same;
         noticed = caught past_the_end ws one 0x800a 0x02 (omega arith) real_faults.1.1.1.1.1.0;
       }
 

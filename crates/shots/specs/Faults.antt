@@ -3,8 +3,7 @@
 --     faults        the table: start here
 -- Each answer but that one's names the address of the descriptor that was to be fetched, which isn't on its list.
 -- Assumes: nothing.
-use Rattle.std.specs.Prelude.{ℕ, List, [], ◌∷◌, ◌++◌}
-use Rattle.ids.specs.declared.Substream.TheVariants.{Without}
+use Rattle.std.specs.Prelude.{ℕ, List, [], ◌∷◌, ◌++◌, None}
 use Rattle.registers.specs.declared.Registers.{Registers}
 use Rattle.answers.specs.Outcome.{f_ste_fetch, f_cd_fetch}
 use Rattle.answers.specs.declared.Outcome.TheVariants.{Bypass, Fault}
@@ -29,7 +28,7 @@ table_at address =
 -- a shot of a stream without a SubstreamID, with bytes put before the figure's
 abbrev pub edited : List (ℕ × ℕ) → ℕ → Outcome → List Piece → Shot
 edited bytes stream answer list =
-    record { registers = plain; memory = bytes ++ figure; request = of stream Without; answer = answer; list = list }
+    record { registers = plain; memory = bytes ++ figure; request = of stream None; answer = answer; list = list }
 
 -- the STE of stream 768 at 0x4000: V 1, Config 101, S1CDMax 8, S1DSS 0; its first three bytes, with V, Config, S1Fmt and S1ContextPtr, are given
 abbrev pub pointed : ℕ → ℕ → ℕ → List (ℕ × ℕ)
@@ -38,7 +37,7 @@ pointed first second third = (0x4000, first) ∷ (0x4001, second) ∷ (0x4002, t
 abbrev pub faults : List Shot
 faults =
     -- L1STD: STRTAB_BASE 0x10000
-    record { registers = table_at 0x10000; memory = figure; request = of 768 Without; answer = Fault f_ste_fetch 0x10018; list = [] }
+    record { registers = table_at 0x10000; memory = figure; request = of 768 None; answer = Fault f_ste_fetch 0x10018; list = [] }
     -- STE: its L1STD points at 0xFFC0 with Span 1, where it is fetched, and at 0x10000, where it isn't
     ∷ edited ((0x8018, 0xc1) ∷ (0x8019, 0xff) ∷ (0xffc0, 0x09) ∷ []) 768 (Bypass 0xffc0) (piece 0x8018 8 ∷ piece 0xffc0 64 ∷ [])
     ∷ edited ((0x8019, 0x00) ∷ (0x801a, 0x01) ∷ []) 768 (Fault f_ste_fetch 0x10000) (piece 0x8018 8 ∷ [])

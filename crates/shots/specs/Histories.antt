@@ -10,10 +10,11 @@
 --     AboveNeverCounts OutsideNeverCounts: whatever bytes lie above the memory that is lent
 --     SampleReport     the report of the rules
 -- Assumes: nothing.
-use Rattle.std.specs.Prelude.{ℕ, ◌+◌, ◌≤◌, ◌<◌, ◌≡◌, Bool, ◌||◌, List, [], ◌∷◌, ◌++◌, eqb, get_or, length, if◌then◌else◌}
+use Rattle.std.specs.Prelude.{ℕ, ◌+◌, ◌≤◌, ◌<◌, ◌≡◌, Bool, ◌||◌, List, [], ◌∷◌, ◌++◌, eqb, get_or, length, if◌then◌else◌, None, Ok, Result, Some, ⊤}
+use Rattle.answers.specs.declared.refusals.Refusal.TheVariants as refusal
+use Rattle.answers.specs.declared.refusals.Refusal.{Refusal}
 use Rattle.placed.specs.From.{tab}
 use Rattle.ids.specs.declared.Request.{Request}
-use Rattle.ids.specs.declared.Substream.TheVariants.{Without, With}
 use Rattle.answers.specs.Outcome.{f_ste_fetch}
 use Rattle.answers.specs.declared.Outcome.{Outcome}
 use Rattle.answers.specs.declared.Outcome.TheVariants.{Bypass, Fault, Quiet}
@@ -23,14 +24,11 @@ use Rattle.lookup.specs.declared.Looked.{Looked}
 use Rattle.book_words.specs.Layout.{key_at, key_of}
 use Rattle.book.specs.Book.{Opened, Asks, Noticed, refused_with}
 use Rattle.book.specs.declared.Asked.{Asked}
-use Rattle.book.specs.declared.Said.{Said}
-use Rattle.book.specs.declared.Said.TheVariants.{Done}
 use Rattle.book.specs.declared.Reply.TheVariants.{KeptBefore, NotKept}
 use Rattle.book_history.specs.Demand2.{lent}
 use Rattle.book_history.specs.Demand3.{looked_in}
 use Rattle.report_cells.specs.Text.{bytes}
 use Rattle.report.specs.Report.{Reported, report_text}
-use Rattle.report.specs.declared.Written.TheVariants.{Length}
 use Rattle.shots.specs.Shots.{plain, stage1, figure, ste_of, cd_of, l1cd_of, of, piece, byte_of, whole}
 
 -- a memory of 65,536 bytes, from the bytes that aren't 0
@@ -41,7 +39,7 @@ abbrev pub bench_memory : List ℕ
 bench_memory = memory_of figure
 
 abbrev pub plainly : ℕ → Request
-plainly n = of n Without
+plainly n = of n None
 
 abbrev pub key : ℕ → ℕ
 key n = key_of (plainly n)
@@ -56,13 +54,13 @@ Keys ws ks = KeysFrom ws 0 ks
 
 -- whatever a notice of one byte leaves has these keys
 abbrev pub Leaves : List ℕ → ℕ → List ℕ → Type 0
-Leaves ws start ks = (says : Said) (after : List ℕ) → Noticed ws start 1 says after → Keys after ks
+Leaves ws start ks = (says : Result ⊤ Refusal) (after : List ℕ) → Noticed ws start 1 says after → Keys after ks
 
 -- a book of two slots, opened on the figure's bench, and asked for one stream in a memory, or in the figure's for one or for two
 pub record OneAskedIn (bs : List (ℕ × ℕ)) (n : ℕ) (ws : List ℕ) : Type 0 where
   pub before : List ℕ
   pub opened : List ℕ
-  pub opens : Opened plain whole 2 before Done opened
+  pub opens : Opened plain whole 2 before (Ok tt) opened
   pub told : Asked
   pub asks : Asks opened 0 (memory_of bs) (plainly n) told ws
 
@@ -86,24 +84,24 @@ pub record BothStruck (ws : List ℕ) : Type 0 where
 -- 188's L1STD alone is noticed: its slot is empty, and the next answer goes there
 abbrev pub SlotUsedAgain : List ℕ → Type 0
 SlotUsedAgain ws =
-    (says : Said) (struck : List ℕ) → Noticed ws 0x8000 1 says struck → (told : Asked) (after : List ℕ)
+    (says : Result ⊤ Refusal) (struck : List ℕ) → Noticed ws 0x8000 1 says struck → (told : Asked) (after : List ℕ)
     → Asks struck 0 bench_memory (plainly 768) told after → Keys after (key 768 ∷ key 256 ∷ [])
 
 -- two slots, both held: a third answer isn't kept; the last slot's is kept before; another base is refused
 pub record FullAndKept (ws : List ℕ) : Type 0 where
   pub full :
       (told : Asked) (after : List ℕ) → Asks ws 0 bench_memory (plainly 768) told after
-      → (told.reply ≡ NotKept (Bypass 0x4000)) × (after ≡ ws)
+      → (told.reply ≡ Ok (NotKept (Bypass 0x4000))) × (after ≡ ws)
   pub kept :
       (told : Asked) (after : List ℕ) → Asks ws 0 bench_memory (plainly 256) told after
-      → (told.reply ≡ KeptBefore (Bypass 0x2f00)) × (after ≡ ws)
+      → (told.reply ≡ Ok (KeptBefore (Bypass 0x2f00))) × (after ≡ ws)
   pub other :
       (memory : List ℕ) (told : Asked) (after : List ℕ) → Asks ws 64 memory (plainly 768) told after
-      → (told ≡ refused_with 6) × (after ≡ ws)
+      → (told ≡ refused_with refusal.OtherMemory) × (after ≡ ws)
 
 -- a book of four slots: P11 and P13 of stream 768, each in its memory, and 256 in the second, where its STE is all zeros
 abbrev pub substreamed : ℕ → Request
-substreamed n = of 768 (With (record { number = n }))
+substreamed n = of 768 (Some (record { number = n }))
 
 abbrev pub third : List (ℕ × ℕ)
 third = ste_of 0 ++ cd_of 0xffc0
@@ -114,7 +112,7 @@ fourth = ste_of 1 ++ (l1cd_of 0xc008 ++ cd_of 0xa180)
 pub record Staged (ws : List ℕ) : Type 0 where
   pub before : List ℕ
   pub opened : List ℕ
-  pub opens : Opened stage1 whole 4 before Done opened
+  pub opens : Opened stage1 whole 4 before (Ok tt) opened
   pub told_three : Asked
   pub first : List ℕ
   pub asks_three : Asks opened 0 (memory_of third) (substreamed 255) told_three first
@@ -148,7 +146,7 @@ says outcome = answered (record { answer = outcome; list = piece 0x8008 8 ∷ (p
 -- an answer is kept, a byte of its tables is edited, and the edit is noticed: what the next ask gives
 abbrev pub Caught : List (ℕ × ℕ) → List ℕ → ℕ → ℕ → Looked → Type 0
 Caught bs ws at byte now =
-    (said : Said) (struck : List ℕ) → Noticed ws at 1 said struck → (told : Asked) (after : List ℕ)
+    (said : Result ⊤ Refusal) (struck : List ℕ) → Noticed ws at 1 said struck → (told : Asked) (after : List ℕ)
     → Asks struck 0 (memory_of ((at, byte) ∷ bs)) (plainly 256) told after → looked_in told ≡ now
 
 abbrev pub StaleCaught : List ℕ → Type 0
@@ -166,7 +164,7 @@ pub record AddressCaught (ws : List ℕ) : Type 0 where
   -- the edit lacks its notice: the kept answer, with the address of before
   pub kept :
       (told : Asked) (after : List ℕ) → Asks ws 0 (memory_of ((0x800a, 0x02) ∷ past_the_end)) (plainly 256) told after
-      → told.reply ≡ KeptBefore (Fault f_ste_fetch 0x12f00)
+      → told.reply ≡ Ok (KeptBefore (Fault f_ste_fetch 0x12f00))
   pub noticed : Caught past_the_end ws 0x800a 0x02 (answered (wants 0x22f00))
 
 -- whatever is written right before and right after its L1STD and its STE, without a notice
@@ -192,6 +190,6 @@ sample = bytes "slot\tstream\tsubstream\toutcome\tevent\taddress\n0\t00000100\t-
 pub record SampleReport (ws : List ℕ) : Type 0 where
   pub text : report_text ws ≡ sample
   pub written :
-      (before after : List ℕ) (n : ℕ) → Reported ws before (Length n) after
+      (before after : List ℕ) (n : ℕ) → Reported ws before (Ok n) after
       → (n ≡ length sample) × ((x : ℕ) → x < length sample → get_or after x 0 ≡ get_or sample x 0)
       × ((x : ℕ) → length sample ≤ x → get_or after x 0 ≡ get_or before x 0)

@@ -3,13 +3,12 @@
 --     Shot        registers, the bytes of the memory that aren't 0, a request, and the answer and list that the rules give
 --     given       what the rules give
 -- Assumes: nothing.
-use Rattle.std.specs.Prelude.{ℕ, ◌+◌, ◌*◌, ◌^◌, List, [], ◌∷◌, ◌++◌, eqb, ltb, if◌then◌else◌}
+use Rattle.std.specs.Prelude.{ℕ, ◌+◌, ◌*◌, ◌^◌, List, [], ◌∷◌, ◌++◌, eqb, ltb, if◌then◌else◌, None, Option, Some}
+use Rattle.ids.specs.declared.SubstreamId.{SubstreamId}
 use Rattle.ids.specs.declared.Request.{Request}
-use Rattle.ids.specs.declared.Substream.{Substream}
-use Rattle.ids.specs.declared.Substream.TheVariants.{Without, With}
 use Rattle.registers.specs.Sizes.{oas_size}
 use Rattle.registers.specs.declared.Registers.{Registers}
-use Rattle.memory_image.specs.Extent.{Extent}
+use Rattle.memory_image.specs.declared.Extent.{Extent}
 use Rattle.memory_image.specs.Rule.{Ran, run}
 use Rattle.memory_image.specs.declared.Piece.{Piece}
 use Rattle.answers.specs.Outcome.{c_bad_stream_id, c_bad_substream_id}
@@ -67,7 +66,7 @@ cd_of at = (at + 1, 0x40) ∷ (at + 3, 0x80) ∷ (at + 5, 0x02) ∷ []
 abbrev pub l1cd_of : ℕ → List (ℕ × ℕ)
 l1cd_of at = (at, 0x01) ∷ (at + 1, 0xa0) ∷ []
 
-abbrev pub of : ℕ → Substream → Request
+abbrev pub of : ℕ → Option SubstreamId → Request
 of stream substream = record { stream = record { number = stream }; substream = substream }
 
 abbrev pub piece : ℕ → ℕ → Piece
@@ -75,12 +74,12 @@ piece address length = record { address = address; length = length }
 
 -- a shot of the figure, without a SubstreamID
 abbrev pub shot : ℕ → Outcome → List Piece → Shot
-shot stream answer list = record { registers = plain; memory = figure; request = of stream Without; answer = answer; list = list }
+shot stream answer list = record { registers = plain; memory = figure; request = of stream None; answer = answer; list = list }
 
 -- a shot of stream 768 with a SubstreamID
 abbrev pub substream_shot : List (ℕ × ℕ) → ℕ → Outcome → List Piece → Shot
 substream_shot memory n answer list =
-    record { registers = stage1; memory = memory; request = of 768 (With (record { number = n })); answer = answer; list = list }
+    record { registers = stage1; memory = memory; request = of 768 (Some (record { number = n })); answer = answer; list = list }
 
 -- each CD found translates: EPD0 1, an effective IPS of 32 bits, and nothing else
 abbrev pub translates : ℕ → Outcome

@@ -1,71 +1,47 @@
 -- Steps 1 to 5, on plain values: a law for each way out.
---     missing_first, missing_second           step 3: the stage that isn't there
---     bypass_without, bypass_with             step 5
 --     ste_invalid, ste_quiet, ste_missing, ste_stage2, ste_bypass, ste_stage1  the steps in order
 --     ste_proper                              where it ends, it ends with a proper outcome
 -- Assumes: nothing.
+use Rattle.std.specs.Prelude.{Err, None, Option, Result, Some}
 use Prim.Native.Nat.{ℕ, ◌≤◌, ◌<◌}
 use mathlib.Core.Path.{◌≡◌, refl}
-use mathlib.Core.Bool.{Bool, true, false, ◌&&◌}
+use mathlib.Core.Bool.{Bool, true, false}
 use borrow.Author.Tests.{eq-eqb, ne_eqb, lt-ltb, le-ltb}
 use lib.Dec.{eqb, ltb}
 use Rattle.bit_fields.specs.Bits.{bits}
 use Rattle.bit_fields.proofs.ChoiceLaws.{either}
-use Rattle.ids.specs.declared.Substream.{Substream}
-use Rattle.ids.specs.declared.Substream.TheVariants.{Without, With}
 use Rattle.ids.specs.declared.SubstreamId.{SubstreamId}
-use Rattle.registers.specs.Fields.{s1p, s2p}
 use Rattle.registers.specs.declared.Registers.{Registers}
 use Rattle.answers.specs.Proper.{listed_event, listed_case, proper_outcome}
 use Rattle.answers.specs.declared.Outcome.{Outcome}
-use Rattle.answers.specs.declared.Outcome.TheVariants.{Abort, Quiet, Bypass, Unserved}
+use Rattle.answers.specs.declared.Outcome.TheVariants.{Abort, Quiet, Unserved}
 use Rattle.stream_entry.specs.StreamEntry.{v, config, stage2_in, not_there, bypass_rule, stage1_rule, ste_rule}
-use Rattle.stream_entry.specs.declared.Entry.{Entry}
-use Rattle.stream_entry.specs.declared.Entry.TheVariants.{Ended}
-use Rattle.stream_entry.proofs.Stage1Laws.{EndsProper, stage_proper}
+use Rattle.answers.proofs.ProperLaws.{EndsProper}
+use Rattle.stream_entry.proofs.Stage1Laws.{stage_proper}
 
-module _ (r : Registers) (c : ℕ) {a b : ℕ} (is_a : a ≡ bits 0 0 c) (is_b : b ≡ s1p r) {first : Bool}
-    (tested : first ≡ (eqb a 1 && eqb b 0)) where
-  pub missing_first : first ≡ true → true ≡ not_there r c
-  unfolding not_there
-  missing_first is_so = simp (← is_a, ← is_b, ← tested, is_so)
-
-  pub missing_second :
-      first ≡ false → {a' b' : ℕ} → a' ≡ bits 1 1 c → b' ≡ s2p r → {second : Bool} → second ≡ (eqb a' 1 && eqb b' 0)
-      → second ≡ not_there r c
-  unfolding not_there
-  missing_second is_not is_a' is_b' tested' = simp (← is_a, ← is_b, ← tested, is_not, ← is_a', ← is_b', ← tested')
-
-module _ (substream : Substream) (address : ℕ) where
-  pub bypass_without : substream ≡ Without → Bypass address ≡ bypass_rule substream address
-  bypass_without is = rw is
-
-  pub bypass_with : {id : SubstreamId} → substream ≡ With id → Abort 8 ≡ bypass_rule substream address
-  bypass_with is = rw is
-
-module _ (r : Registers) (substream : Substream) (address : ℕ) (w : ℕ → ℕ) {valid : ℕ} (is_v : valid ≡ v w) where
-  pub ste_invalid : valid ≡ 0 → Ended (Abort 4) ≡ ste_rule r substream address w
+module _ (r : Registers) (substream : Option SubstreamId) (address : ℕ) (w : ℕ → ℕ) {valid : ℕ} (is_v : valid ≡ v w) where
+  pub ste_invalid : valid ≡ 0 → Err (Abort 4) ≡ ste_rule r substream address w
   unfolding ste_rule
   ste_invalid is_not = simp (← is_v, eq-eqb _ _ is_not)
 
   module _ (set : valid ≡ 0 → ⊥) {c : ℕ} (is_config : c ≡ config w) where
-    pub ste_quiet : c < 4 → Ended Quiet ≡ ste_rule r substream address w
+    pub ste_quiet : c < 4 → Err Quiet ≡ ste_rule r substream address w
     unfolding ste_rule
     ste_quiet low = simp (← is_v, ne_eqb _ _ set, ← is_config, lt-ltb _ _ low)
 
     module _ (high : 4 ≤ c) {missing : Bool} (is_missing : missing ≡ not_there r c) where
-      pub ste_missing : missing ≡ true → Ended (Abort 4) ≡ ste_rule r substream address w
+      pub ste_missing : missing ≡ true → Err (Abort 4) ≡ ste_rule r substream address w
       unfolding ste_rule
       ste_missing is_so = simp (← is_v, ne_eqb _ _ set, ← is_config, le-ltb _ _ high, ← is_missing, is_so)
 
       module _ (there : missing ≡ false) {second : ℕ} (is_second : second ≡ bits 1 1 c) where
-        pub ste_stage2 : second ≡ 1 → Ended (Unserved 20) ≡ ste_rule r substream address w
+        pub ste_stage2 : second ≡ 1 → Err (Unserved 20) ≡ ste_rule r substream address w
         unfolding ste_rule
         ste_stage2 is_so =
             simp (← is_v, ne_eqb _ _ set, ← is_config, le-ltb _ _ high, ← is_missing, there, ← is_second, eq-eqb _ _ is_so)
 
         module _ (alone : second ≡ 1 → ⊥) where
-          pub ste_bypass : c ≡ 4 → {outcome : Outcome} → outcome ≡ bypass_rule substream address → Ended outcome ≡ ste_rule r substream address w
+          pub ste_bypass : c ≡ 4 → {outcome : Outcome} → outcome ≡ bypass_rule substream address → Err outcome ≡ ste_rule r substream address w
           unfolding ste_rule
           ste_bypass four is =
               rw is
@@ -73,19 +49,19 @@ module _ (r : Registers) (substream : Substream) (address : ℕ) (w : ℕ → �
               (← is_v, ne_eqb _ _ set, ← is_config, le-ltb _ _ high, ← is_missing, there, ← is_second, ne_eqb _ _ alone, eq-eqb _ _ four))
 
           pub ste_stage1 :
-              (c ≡ 4 → ⊥) → {entry : Entry} → entry ≡ stage1_rule r substream address w → entry ≡ ste_rule r substream address w
+              (c ≡ 4 → ⊥) → {entry : Result ℕ Outcome} → entry ≡ stage1_rule r substream address w → entry ≡ ste_rule r substream address w
           unfolding ste_rule
           ste_stage1 five is =
               rw is
               (simp
               (← is_v, ne_eqb _ _ set, ← is_config, le-ltb _ _ high, ← is_missing, there, ← is_second, ne_eqb _ _ alone, ne_eqb _ _ five))
 
-bypass_proper : (substream : Substream) (address : ℕ) → proper_outcome (bypass_rule substream address) ≡ true
+bypass_proper : (substream : Option SubstreamId) (address : ℕ) → proper_outcome (bypass_rule substream address) ≡ true
 unfolding proper_outcome listed_event
-bypass_proper Without address = refl
-bypass_proper (With id) address = refl
+bypass_proper None address = refl
+bypass_proper (Some id) address = refl
 
-pub ste_proper : (r : Registers) (substream : Substream) (address : ℕ) (w : ℕ → ℕ) → EndsProper (ste_rule r substream address w)
+pub ste_proper : (r : Registers) (substream : Option SubstreamId) (address : ℕ) (w : ℕ → ℕ) → EndsProper (ste_rule r substream address w)
 unfolding ste_rule proper_outcome listed_event listed_case
 ste_proper r substream address w =
     either EndsProper (eqb (v w) 0) refl

@@ -6,17 +6,14 @@
 -- Ours: Config 100 with a SubstreamID is C_BAD_SUBSTREAMID (5). S1Fmt, S1DSS and S1CDMax are read as stored, which the checks of step 6 need; 003
 -- has 3 behave as 0 in the first two (`% 3`), and ignores S1CDMax where SSIDSIZE is 0. Every rule reads them by these definitions.
 -- Assumes: nothing.
-use Rattle.std.specs.Prelude.{ℕ, ◌*◌, ◌^◌, Bool, not, ◌&&◌, ◌||◌, eqb, leb, ltb, if◌then◌else◌}
+use Rattle.std.specs.Prelude.{ℕ, ◌*◌, ◌^◌, Bool, not, ◌&&◌, ◌||◌, eqb, leb, ltb, if◌then◌else◌, Err, None, Ok, Option, Result, Some}
+use Rattle.ids.specs.declared.SubstreamId.{SubstreamId}
 use Rattle.bit_fields.specs.Bits.{bits, bits_of}
-use Rattle.ids.specs.declared.Substream.{Substream}
-use Rattle.ids.specs.declared.Substream.TheVariants.{Without, With}
 use Rattle.registers.specs.Fields.{s1p, s2p, hyp, cd2l, ssid_size}
 use Rattle.registers.specs.declared.Registers.{Registers}
 use Rattle.answers.specs.Outcome.{c_bad_ste, f_stream_disabled, c_bad_substream_id, stage2, stream_world}
 use Rattle.answers.specs.declared.Outcome.{Outcome}
 use Rattle.answers.specs.declared.Outcome.TheVariants.{Abort, Quiet, Bypass, Unserved}
-use Rattle.stream_entry.specs.declared.Entry.{Entry}
-use Rattle.stream_entry.specs.declared.Entry.TheVariants.{Ended, Stage1}
 
 -- an STE is handed over as its words
 abbrev pub v : (ℕ → ℕ) → ℕ
@@ -59,42 +56,42 @@ bad_stage1 r w =
     && (eqb (s1_fmt w) 3 || ((not (eqb (s1_fmt w) 0) && eqb (cd2l r) 0) || eqb (s1_dss w) 3)))
 
 -- 5. Config 100: with a SubstreamID, C_BAD_SUBSTREAMID; without, bypass
-abbrev pub bypass_rule : Substream → ℕ → Outcome
-bypass_rule Without address = Bypass address
-bypass_rule (With id) address = Abort c_bad_substream_id
+abbrev pub bypass_rule : Option SubstreamId → ℕ → Outcome
+bypass_rule None address = Bypass address
+bypass_rule (Some id) address = Abort c_bad_substream_id
 
 -- 8. by S1CDMax, with a SubstreamID
-unfoldable pub with_id : ℕ → (ℕ → ℕ) → ℕ → Entry
+unfoldable pub with_id : ℕ → (ℕ → ℕ) → ℕ → Result ℕ Outcome
 with_id max w n =
-    if eqb max 0 || leb (2 ^ max) n then Ended (Abort c_bad_substream_id)
-    else if eqb n 0 && eqb (s1_dss w) 2 then Ended (Abort f_stream_disabled)
-    else Stage1 n
+    if eqb max 0 || leb (2 ^ max) n then Err (Abort c_bad_substream_id)
+    else if eqb n 0 && eqb (s1_dss w) 2 then Err (Abort f_stream_disabled)
+    else Ok n
 
 -- 8. without one: S1CDMax above 0 and S1DSS 0 gives F_STREAM_DISABLED, 1 bypass, 2 uses CD 0
-unfoldable pub without_id : ℕ → (ℕ → ℕ) → ℕ → Entry
+unfoldable pub without_id : ℕ → (ℕ → ℕ) → ℕ → Result ℕ Outcome
 without_id max w address =
-    if eqb max 0 then Stage1 0
-    else if eqb (s1_dss w) 0 then Ended (Abort f_stream_disabled)
-    else if eqb (s1_dss w) 1 then Ended (Bypass address)
-    else Stage1 0
+    if eqb max 0 then Ok 0
+    else if eqb (s1_dss w) 0 then Err (Abort f_stream_disabled)
+    else if eqb (s1_dss w) 1 then Err (Bypass address)
+    else Ok 0
 
-abbrev pub substream_rule : ℕ → (ℕ → ℕ) → Substream → ℕ → Entry
-substream_rule max w Without address = without_id max w address
-substream_rule max w (With id) address = with_id max w id.number
+abbrev pub substream_rule : ℕ → (ℕ → ℕ) → Option SubstreamId → ℕ → Result ℕ Outcome
+substream_rule max w None address = without_id max w address
+substream_rule max w (Some id) address = with_id max w id.number
 
 -- 6 to 8, of a stream with stage 1 alone
-unfoldable pub stage1_rule : Registers → Substream → ℕ → (ℕ → ℕ) → Entry
+unfoldable pub stage1_rule : Registers → Option SubstreamId → ℕ → (ℕ → ℕ) → Result ℕ Outcome
 stage1_rule r substream address w =
-    if bad_stage1 r w then Ended (Abort c_bad_ste)  -- 6
-    else if eqb (hyp r) 1 && not (eqb (strw w) 0) then Ended (Unserved stream_world)  -- 7
+    if bad_stage1 r w then Err (Abort c_bad_ste)  -- 6
+    else if eqb (hyp r) 1 && not (eqb (strw w) 0) then Err (Unserved stream_world)  -- 7
     else substream_rule (s1_cd_max r w) w substream address  -- 8
 
 -- the STE at an address, by its words
-unfoldable pub ste_rule : Registers → Substream → ℕ → (ℕ → ℕ) → Entry
+unfoldable pub ste_rule : Registers → Option SubstreamId → ℕ → (ℕ → ℕ) → Result ℕ Outcome
 ste_rule r substream address w =
-    if eqb (v w) 0 then Ended (Abort c_bad_ste)  -- 1
-    else if ltb (config w) 4 then Ended Quiet  -- 2
-    else if not_there r (config w) then Ended (Abort c_bad_ste)  -- 3
-    else if stage2_in (config w) then Ended (Unserved stage2)  -- 4
-    else if eqb (config w) 4 then Ended (bypass_rule substream address)  -- 5
+    if eqb (v w) 0 then Err (Abort c_bad_ste)  -- 1
+    else if ltb (config w) 4 then Err Quiet  -- 2
+    else if not_there r (config w) then Err (Abort c_bad_ste)  -- 3
+    else if stage2_in (config w) then Err (Unserved stage2)  -- 4
+    else if eqb (config w) 4 then Err (bypass_rule substream address)  -- 5
     else stage1_rule r substream address w

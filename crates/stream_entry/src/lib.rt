@@ -1,26 +1,21 @@
 // What an STE says. Start at `read_ste`.
-// Meets specs/StreamEntry.antt; the STE is handed over as its place in the memory, and its fields are in fields.rt.
+// Meets specs/StreamEntry.antt; an STE and its fields are in fields.rt.
 #![tactic(auto)]
 
 ghost use Rattle.std.specs.Prelude.{◌≡◌, ◌<◌};
-ghost use Rattle.memory_image.specs.Words.{word_of};
+ghost use Rattle.memory_image.specs.Descriptor.{descriptor_words};
 ghost use Rattle.stream_entry.specs.StreamEntry.{bad_stage1, bypass_rule, not_there, stage1_rule, ste_rule, with_id, without_id};
 
 use answers::Outcome;
 use bit_fields::{both, field, in_bits};
-use ids::Substream;
+use fields::Ste;
+use ids::SubstreamId;
 use registers::Registers;
 
 pub mod fields;
 
-// How the lookup ends at the STE, or the index of the CD that it goes on to.
-#[derive(Clone, Copy)]
-pub enum Entry {
-    Ended(Outcome),
-    Stage1(u32),
-}
-
 // Step 3: a stage that Config asks for and the SMMU does not have.
+#[tactic(auto, unfolding(crate::specs::StreamEntry::not_there))]
 fn not_there(registers: Registers, config: u64) -> bool
     ensures { result ≡ not_there registers config }
 {
@@ -31,118 +26,115 @@ fn not_there(registers: Registers, config: u64) -> bool
 }
 
 // Step 5: Config 100.
-fn bypass(substream: Substream, address: u64) -> Outcome
+fn bypass(substream: Option<SubstreamId>, address: u64) -> Outcome
     ensures { result ≡ bypass_rule substream address }
 {
     match substream {
-        Substream::Without => Outcome::Bypass(address),
-        Substream::With(_) => Outcome::Abort(answers::C_BAD_SUBSTREAMID),
+        None => Outcome::Bypass(address),
+        Some(_) => Outcome::Abort(answers::C_BAD_SUBSTREAMID),
     }
 }
 
 // Step 6: fields of stage 1 that are not for this SMMU.
-fn bad_stage1(registers: Registers, memory: &[u8], place: usize) -> bool
-    ensures { result ≡ bad_stage1 registers (word_of memory.now place) }
+fn bad_stage1(registers: Registers, ste: Ste) -> bool
+    ensures { result ≡ bad_stage1 registers (descriptor_words ste.entry.descriptor) }
 {
-    let max = fields::s1_cd_max(registers, memory, place);
+    let max = ste.s1_cd_max(registers);
     if registers.ssid_size() < max {
         return true;
     }
     if max == 0 {
         return false;
     }
-    let format = fields::s1_fmt(memory, place);
+    let format = ste.s1_fmt();
     if format == 3 {
         return true;
     }
     if both(format != 0, registers.cd2l() == 0) {
         return true;
     }
-    fields::s1_dss(memory, place) == 3
+    ste.s1_dss() == 3
 }
 
 // Step 8, with a SubstreamID and a table for so many bits of them (S1CDMax).
-fn with_id(bits: u64, memory: &[u8], place: usize, n: u64) -> Entry
+#[tactic(auto, unfolding(crate::specs::StreamEntry::with_id))]
+fn with_id(bits: u64, ste: Ste, n: u64) -> Result<u32, Outcome>
     requires { bits < 32 }
-    ensures { result ≡ with_id bits (word_of memory.now place) n }
+    ensures { result ≡ with_id bits (descriptor_words ste.entry.descriptor) n }
 {
     if bits == 0 {
-        return Entry::Ended(Outcome::Abort(answers::C_BAD_SUBSTREAMID));
+        return Err(Outcome::Abort(answers::C_BAD_SUBSTREAMID));
     }
     if !in_bits(n, bits) {
-        return Entry::Ended(Outcome::Abort(answers::C_BAD_SUBSTREAMID));
+        return Err(Outcome::Abort(answers::C_BAD_SUBSTREAMID));
     }
-    if both(n == 0, fields::s1_dss(memory, place) == 2) {
-        return Entry::Ended(Outcome::Abort(answers::F_STREAM_DISABLED));
+    if both(n == 0, ste.s1_dss() == 2) {
+        return Err(Outcome::Abort(answers::F_STREAM_DISABLED));
     }
-    let index = n as u32;
-    Entry::Stage1(index)
+    Ok(n as u32)
 }
 
 // Step 8, without one.
-fn without_id(max: u64, memory: &[u8], place: usize, address: u64) -> Entry
-    ensures { result ≡ without_id max (word_of memory.now place) address }
+#[tactic(auto, unfolding(crate::specs::StreamEntry::without_id))]
+fn without_id(max: u64, ste: Ste, address: u64) -> Result<u32, Outcome>
+    ensures { result ≡ without_id max (descriptor_words ste.entry.descriptor) address }
 {
     if max == 0 {
-        return Entry::Stage1(0);
+        return Ok(0);
     }
-    let dss = fields::s1_dss(memory, place);
-    match dss {
-        0 => Entry::Ended(Outcome::Abort(answers::F_STREAM_DISABLED)),
-        1 => Entry::Ended(Outcome::Bypass(address)),
-        _ => Entry::Stage1(0),
+    match ste.s1_dss() {
+        0 => Err(Outcome::Abort(answers::F_STREAM_DISABLED)),
+        1 => Err(Outcome::Bypass(address)),
+        _ => Ok(0),
     }
 }
 
 // Steps 6 to 8: a stream with stage 1 alone.
 fn stage1(
     registers: Registers,
-    substream: Substream,
+    substream: Option<SubstreamId>,
     address: u64,
-    memory: &[u8],
-    place: usize,
-) -> Entry
-    ensures { result ≡ stage1_rule registers substream address (word_of memory.now place) }
+    ste: Ste,
+) -> Result<u32, Outcome>
+    ensures { result ≡ stage1_rule registers substream address (descriptor_words ste.entry.descriptor) }
 {
-    if bad_stage1(registers, memory, place) {
-        return Entry::Ended(Outcome::Abort(answers::C_BAD_STE));
+    if bad_stage1(registers, ste) {
+        return Err(Outcome::Abort(answers::C_BAD_STE));
     }
-    if both(registers.hyp() == 1, fields::strw(memory, place) != 0) {
-        return Entry::Ended(Outcome::Unserved(answers::STREAM_WORLD));
+    if both(registers.hyp() == 1, ste.strw() != 0) {
+        return Err(Outcome::Unserved(answers::STREAM_WORLD));
     }
-    let max = fields::s1_cd_max(registers, memory, place);
+    let max = ste.s1_cd_max(registers);
     match substream {
-        Substream::Without => without_id(max, memory, place, address),
-        Substream::With(id) => with_id(max, memory, place, id.number),
+        None => without_id(max, ste, address),
+        Some(id) => with_id(max, ste, id.number),
     }
 }
 
-// What the STE at an address, and at a place of the memory, says to a request.
+// What the STE at an address says to a request: how the lookup ends, or the index of the CD that it goes on to.
 pub fn read_ste(
     registers: Registers,
-    substream: Substream,
+    substream: Option<SubstreamId>,
     address: u64,
-    memory: &[u8],
-    place: usize,
-) -> Entry
-    ensures { result ≡ ste_rule registers substream address (word_of memory.now place) }
+    ste: Ste,
+) -> Result<u32, Outcome>
+    ensures { result ≡ ste_rule registers substream address (descriptor_words ste.entry.descriptor) }
 {
-    if fields::v(memory, place) == 0 {
-        return Entry::Ended(Outcome::Abort(answers::C_BAD_STE));
+    if ste.v() == 0 {
+        return Err(Outcome::Abort(answers::C_BAD_STE));
     }
-    let config = fields::config(memory, place);
+    let config = ste.config();
     if config < 4 {
-        return Entry::Ended(Outcome::Quiet);
+        return Err(Outcome::Quiet);
     }
     if not_there(registers, config) {
-        return Entry::Ended(Outcome::Abort(answers::C_BAD_STE));
+        return Err(Outcome::Abort(answers::C_BAD_STE));
     }
     if field(config, 1, 1) == 1 {
-        return Entry::Ended(Outcome::Unserved(answers::STAGE_2));
+        return Err(Outcome::Unserved(answers::STAGE_2));
     }
     if config == 4 {
-        let outcome = bypass(substream, address);
-        return Entry::Ended(outcome);
+        return Err(bypass(substream, address));
     }
-    stage1(registers, substream, address, memory, place)
+    stage1(registers, substream, address, ste)
 }

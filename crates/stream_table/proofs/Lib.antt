@@ -1,3 +1,2 @@
 -- Laws of specs/StreamTable.antt.
-pub mod AddressLaws
 pub mod StreamLaws

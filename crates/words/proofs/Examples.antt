@@ -7,10 +7,10 @@ use mathlib.Core.Path.{◌≡◌, refl}
 use mathlib.Core.Bool.{Bool, true, false}
 use mathlib.Core.List.{List, [], ◌∷◌}
 use Rattle.words.specs.Words.{is_blank, words_from, words_of, without_return}
-use Rattle.words.specs.Numbers.{digit_of, pushed_rule, digits_from, digits_rule, number_rule}
+use Rattle.words.specs.Numbers.{Value, digit_of, pushed_rule, digits_from, digits_rule, number_rule}
 use Rattle.words.specs.Numbers.{are_digits, is_pairs, pair_rule}
-use Rattle.words.specs.declared.numbers.Value.{Value}
-use Rattle.words.specs.declared.numbers.Value.TheVariants.{Is, TooLarge, NotOne}
+use Rattle.words.specs.declared.numbers.NumberError.TheVariants.{TooLarge, NotANumber}
+use Rattle.std.specs.Prelude.{Ok, Err}
 
 abbrev bytes : String → List ℕ
 bytes empty = []
@@ -40,8 +40,8 @@ numbers =
 
 read :
     numbers
-    ≡ Is 255 ∷ Is 10 ∷ Is 18446744073709551615 ∷ TooLarge ∷ TooLarge
-    ∷ NotOne ∷ NotOne ∷ NotOne ∷ NotOne ∷ NotOne ∷ []
+    ≡ Ok 255 ∷ Ok 10 ∷ Ok 18446744073709551615 ∷ Err TooLarge ∷ Err TooLarge
+    ∷ Err NotANumber ∷ Err NotANumber ∷ Err NotANumber ∷ Err NotANumber ∷ Err NotANumber ∷ []
 unfolding number_rule digits_rule digits_from pushed_rule digit_of
 read = refl
 

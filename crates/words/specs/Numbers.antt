@@ -2,9 +2,13 @@
 --     number_rule           what a word is as a number
 --     is_pairs, pair_rule   whether a word is pairs of hexadecimal digits; the byte that a pair says
 -- Assumes: nothing.
-use Rattle.std.specs.Prelude.{ℕ, ◌+◌, ◌-◌, ◌*◌, ◌/◌, ◌%◌, ◌^◌, Bool, true, ◌&&◌, List, [], ◌∷◌, eqb, leb, ltb, length, drop, get_or, if◌then◌else◌}
-use Rattle.words.specs.declared.numbers.Value.{Value}
-use Rattle.words.specs.declared.numbers.Value.TheVariants.{Is, TooLarge, NotOne}
+use Rattle.std.specs.Prelude.{ℕ, ◌+◌, ◌-◌, ◌*◌, ◌/◌, ◌%◌, ◌^◌, Bool, true, ◌&&◌, List, [], ◌∷◌, Result, Ok, Err, eqb, leb, ltb, length, drop, get_or, if◌then◌else◌}
+use Rattle.words.specs.declared.numbers.NumberError.{NumberError}
+use Rattle.words.specs.declared.numbers.NumberError.TheVariants.{TooLarge, NotANumber}
+
+-- what a word is as a number
+abbrev pub Value : Type 0
+Value = Result ℕ NumberError
 
 -- the value of a hexadecimal digit of either case; 16 for any other byte
 unfoldable pub digit_of : ℕ → ℕ
@@ -16,21 +20,20 @@ digit_of b =
 
 -- a number with one digit more
 unfoldable pub pushed_rule : Value → ℕ → ℕ → Value
-pushed_rule (Is n) base d = if ltb (n * base + d) (2 ^ 64) then Is (n * base + d) else TooLarge
-pushed_rule TooLarge base d = TooLarge
-pushed_rule NotOne base d = NotOne
+pushed_rule (Ok n) base d = if ltb (n * base + d) (2 ^ 64) then Ok (n * base + d) else Err TooLarge
+pushed_rule (Err why) base d = Err why
 
 -- a number with the digits of the rest of a word
 unfoldable pub digits_from : ℕ → Value → List ℕ → Value
 digits_from base so_far [] = so_far
 digits_from base so_far (b ∷ bs) =
-    if leb base (digit_of b) then NotOne
+    if leb base (digit_of b) then Err NotANumber
     else digits_from base (pushed_rule so_far base (digit_of b)) bs
 
 -- one digit at least
 unfoldable pub digits_rule : ℕ → List ℕ → Value
-digits_rule base [] = NotOne
-digits_rule base (b ∷ bs) = digits_from base (Is 0) (b ∷ bs)
+digits_rule base [] = Err NotANumber
+digits_rule base (b ∷ bs) = digits_from base (Ok 0) (b ∷ bs)
 
 -- decimal, or after `0x` hexadecimal
 unfoldable pub number_rule : List ℕ → Value

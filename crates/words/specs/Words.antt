@@ -1,9 +1,8 @@
 -- The words of a line (SCRIPT, "Lines").
 --     words_of          the words, in order: start here
 --     without_return    a line without the one carriage return that it may end with
---     stops, passed     where a word or a run of blanks ends, for the code's own steps
 -- Assumes: nothing.
-use Rattle.std.specs.Prelude.{ℕ, suc, ◌-◌, Bool, not, ◌||◌, List, [], ◌∷◌, ◌++◌, eqb, length, take, get_or, if◌then◌else◌}
+use Rattle.std.specs.Prelude.{ℕ, ◌-◌, Bool, ◌||◌, List, [], ◌∷◌, ◌++◌, eqb, length, take, get_or, if◌then◌else◌}
 
 -- a space or a tab
 unfoldable pub is_blank : ℕ → Bool
@@ -28,12 +27,3 @@ unfoldable pub without_return : List ℕ → List ℕ
 without_return line =
     if eqb (get_or line (length line - 1) 0) 13 then take (length line - 1) line
     else line
-
--- a byte is a blank, or is none, as asked
-unfoldable pub stops : ℕ → Bool → Bool
-stops b blank = if is_blank b then blank else not blank
-
--- how many bytes stand before the first that is so
-unfoldable pub passed : Bool → List ℕ → ℕ
-passed blank [] = 0
-passed blank (b ∷ bs) = if stops b blank then 0 else suc (passed blank bs)

@@ -1,18 +1,13 @@
--- Proof of `book_words::first_from`: what is left of the search is the whole of it.
+-- Proof of `book_words::first_from`: where the key stands among the slots' keys.
 -- Assumes: nothing.
-use native.Mathlib.Omega.{arith}
-use native.Mathlib.Nat.{sub-zero}
-use Rattle.book_words.proofs.ScanLaws.{first_none, first_found, first_more}
+use Rattle.std.proofs.Common.{rules, tests}
+use Rattle.std.proofs.lemmas.Iterator.{YieldsList-from_slice}
+use Rattle.std.proofs.lemmas.Iterator.Search.{position_from_yields_List}
+use Rattle.book_words.proofs.ScanLaws.{first_position}
 use Rattle.book_words.proofs.first_from.Goals as goal
 
-pub loop-i-init : goal.loop-i-init
-loop-i-init c = (omega arith, rw sub-zero)
-
-pub returns-then-book-i : goal.returns-then-book-i
-returns-then-book-i c = (search first_found, omega arith)
-
-pub loop-i-preserved : goal.loop-i-preserved
-loop-i-preserved c = (omega arith, search first_more)
-
 pub returns : goal.returns
-returns c = (search first_none, omega arith)
+returns c =
+    first_position c.args.book.now c.args.key c.args.n c.requires c.told-book
+    (position_from_yields_List _ _ _ _ c.position.ensures.ran (YieldsList-from_slice _ c.iter.ensures.rest) (λ x b q k. search (rules, tests)))
+    c.unwrap_or.ensures

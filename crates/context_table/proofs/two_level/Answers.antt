@@ -1,7 +1,7 @@
--- Proof of `context_table::two_level`: the L1CD isn't fetched; it is.
+-- Proof of `context_table::two_level`: the descriptor isn't fetched; it is.
 -- Assumes: nothing.
-use Rattle.context_table.proofs.ContextLaws.{two_fault, two_read}
 use borrow.Author.Rules.{rules}
+use Rattle.context_table.proofs.ContextLaws.{two_fault, two_read}
 use Rattle.context_table.proofs.two_level.Goals as goal
 
 pub returns-in_default : goal.returns-in_default

@@ -1,8 +1,17 @@
--- Proof of `lookup::look_into`: by the registers and the request that its numbers make.
+-- Proof of `lookup::look_into`: the refusals in their order, and the answer.
 -- Assumes: nothing.
-use Rattle.lookup.proofs.RuledLaws.{looked_handed}
 use borrow.Author.Rules.{rules}
+use Rattle.lookup.proofs.RuledLaws.{refused_first, refused_second, refused_third, answered_last}
 use Rattle.lookup.proofs.look_into.Goals as goal
 
+pub returns-then-refused : goal.returns-then-refused
+returns-then-refused c = search (rules, refused_first)
+
+pub returns-then-refused-2 : goal.returns-then-refused-2
+returns-then-refused-2 c = search (rules, refused_second)
+
+pub returns-then-refused-3 : goal.returns-then-refused-3
+returns-then-refused-3 c = search (rules, refused_third)
+
 pub returns : goal.returns
-returns c = search (rules, looked_handed)
+returns c = search (rules, answered_last)

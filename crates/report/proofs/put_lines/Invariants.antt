@@ -1,13 +1,12 @@
 -- Proof of `report::put_lines`.
 -- Assumes: nothing.
-use Prim.Native.Nat.{◌-◌, ◌≤◌}
+use Prim.Native.Nat.{◌-◌}
+use mathlib.Core.Path.{◌≡◌}
 use Rattle.placed.specs.Placed.{Left}
-use Rattle.book_words.specs.Layout.{slots_most}
 use Rattle.report.specs.Report.{lines_from}
 use Rattle.report.proofs.put_lines.Given as goal
 
 abbrev pub invariant-loop-i : goal.invariant-loop-i
-invariant-loop-i l = (l.i ≤ l.slots) × (l.slots ≤ slots_most) × Left l.initial.out l.at (lines_from l.book l.slots 0) l.out l.to (lines_from l.book (l.slots - l.i) l.i)
-
-abbrev pub decreases-loop-i : goal.decreases-loop-i
-decreases-loop-i l = l.slots - l.i
+invariant-loop-i l =
+    (l.writer.out.ghost_name ≡ l.initial.writer.out.ghost_name)
+    × Left l.initial.writer.out.now l.initial.writer.at (lines_from l.book l.slots 0) l.writer.out.now l.writer.at (lines_from l.book (l.slots - l.i) l.i)

@@ -5,10 +5,10 @@ use Rattle.report.proofs.ScanLaws.{text_counted, lines_summed, lines_done}
 use Rattle.report.proofs.text_length.Goals as goal
 
 pub loop-i-init : goal.loop-i-init
-loop-i-init c = (omega arith, omega arith, search text_counted, omega arith)
+loop-i-init c = (search text_counted, omega arith)
 
 pub loop-i-preserved : goal.loop-i-preserved
-loop-i-preserved c = (omega arith, omega arith, search lines_summed, omega arith)
+loop-i-preserved c = (search lines_summed, omega arith)
 
 pub returns : goal.returns
 returns c = search lines_done

@@ -10,8 +10,8 @@ returns-then-bad_stage1 c = search (rules, stage_bad)
 pub returns-then-both : goal.returns-then-both
 returns-then-both c = search (rules, stage_world)
 
-pub returns-in-Without : goal.returns-in-Without
-returns-in-Without c = search (rules, stage_without)
+pub returns-in-None : goal.returns-in-None
+returns-in-None c = search (rules, stage_without)
 
-pub returns-in-With : goal.returns-in-With
-returns-in-With c = search (rules, stage_with)
+pub returns-in-Some : goal.returns-in-Some
+returns-in-Some c = search (rules, stage_with)

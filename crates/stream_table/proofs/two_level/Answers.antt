@@ -1,4 +1,4 @@
--- Proof of `stream_table::two_level`.
+-- Proof of `stream_table::two_level`: the descriptor isn't fetched; it is.
 -- Assumes: nothing.
 use borrow.Author.Rules.{rules}
 use Rattle.stream_table.proofs.StreamLaws.{two_fault, two_read}

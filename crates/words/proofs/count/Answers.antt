@@ -1,21 +1,18 @@
--- Proof of `words::count`: the words passed, and those that are left.
+-- Proof of `words::count`: the words are the parts between blanks.
 -- Assumes: nothing.
-use borrow.Author.Rules.{rules}
-use Rattle.words.proofs.WordsLaws.{starts_after, starts_next, end_within}
-use Rattle.words.proofs.WordsLaws.{count_begin, count_less, count_later, count_more, count_end}
+use Rattle.std.proofs.Common.{rules}
+use borrow.Author.Tests.{tests}
+use Rattle.std.proofs.lemmas.Iterator.Consumers.{count_from_yields_List, YieldsList-from_filter}
+use Rattle.std.proofs.lemmas.Iterator.Splits.{YieldsList-from_slice_split}
+use Rattle.std.specs.List.{slice_split}
+use Rattle.words.specs.Words.{is_blank}
+use Rattle.words.proofs.WordsLaws.{words_are, is_word}
 use Rattle.words.proofs.count.Goals as goal
 
-pub loop-start-init : goal.loop-start-init
-loop-start-init c = (search rules, search (rules, starts_after), search count_begin)
-
-pub until-start-requires-in-loop-start : goal.until-start-requires-in-loop-start
-until-start-requires-in-loop-start c = search end_within
-
-pub loop-start-smaller : goal.loop-start-smaller
-loop-start-smaller c = search count_less
-
-pub loop-start-preserved : goal.loop-start-preserved
-loop-start-preserved c = (search count_later, search starts_next, search count_more)
-
 pub returns : goal.returns
-returns c = search count_end
+returns c =
+    rw (← words_are c.args.line.now)
+    (count_from_yields_List _ _ c.count.ensures.ran
+    (YieldsList-from_filter {ys = slice_split is_blank c.args.line.now} _ is_word
+    (YieldsList-from_slice_split _ is_blank c.args.line.now (cc) (cc) (cc) (λ x b q k. search (rules, tests)))
+    c.filter.ensures.closure (λ x b q k. search (rules, tests))))

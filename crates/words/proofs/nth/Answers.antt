@@ -1,21 +1,19 @@
--- Proof of `words::nth`: each turn leaves one word less to pass.
+-- Proof of `words::nth`: the words are the parts between blanks.
 -- Assumes: nothing.
-use borrow.Author.Rules.{rules}
-use Rattle.words.proofs.WordsLaws.{starts_after, starts_next, end_within}
-use Rattle.words.proofs.WordsLaws.{nth_begin, nth_more, nth_here}
+use Rattle.std.proofs.Common.{rules}
+use borrow.Author.Tests.{tests}
+use Rattle.std.proofs.lemmas.Iterator.Consumers.{nth_from_yields_List, YieldsList-from_filter}
+use Rattle.std.proofs.lemmas.Iterator.Splits.{YieldsList-from_slice_split}
+use Rattle.std.specs.List.{slice_split}
+use Rattle.words.specs.Words.{is_blank}
+use Rattle.words.proofs.WordsLaws.{words_are, is_word, nth_or}
 use Rattle.words.proofs.nth.Goals as goal
 
-pub loop-i-init : goal.loop-i-init
-loop-i-init c = (search rules, search (rules, starts_after), search nth_begin)
-
-pub until-start-requires-in-loop-i : goal.until-start-requires-in-loop-i
-until-start-requires-in-loop-i c = search end_within
-
-pub loop-i-preserved : goal.loop-i-preserved
-loop-i-preserved c = (search rules, search starts_next, search nth_more)
-
-pub slice_bounds-result-end : goal.slice_bounds-result-end
-slice_bounds-result-end c = search end_within
-
 pub returns : goal.returns
-returns c = search nth_here
+returns c =
+    let e =
+    nth_from_yields_List _ _ c.args.k c.nth.ensures.ran
+    (YieldsList-from_filter {ys = slice_split is_blank c.args.line.now} _ is_word
+    (YieldsList-from_slice_split _ is_blank c.args.line.now (cc) (cc) (cc) (λ x b q k. search (rules, tests)))
+    c.filter.ensures.closure (λ x b q k. search (rules, tests))) in
+    rw (c.unwrap_or.ensures, ← words_are c.args.line.now) (nth_or c.nth.result _ _ c.args.k e)

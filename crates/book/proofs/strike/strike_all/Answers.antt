@@ -1,15 +1,10 @@
 -- Proof of `book::strike::strike_all`: what is left to strike is the whole of it.
 -- Assumes: nothing.
-use native.Mathlib.Omega.{arith}
-use mathlib.Core.Path.{refl}
 use Rattle.book.proofs.ScanLaws.{all_struck, more_struck}
 use Rattle.book.proofs.strike.strike_all.Goals as goal
 
-pub loop-i-init : goal.loop-i-init
-loop-i-init c = (omega arith, refl)
-
 pub loop-i-preserved : goal.loop-i-preserved
-loop-i-preserved c = (omega arith, search more_struck)
+loop-i-preserved c = search more_struck
 
 pub returns : goal.returns
 returns c = search all_struck

@@ -1,14 +1,15 @@
--- Proof of `book_words::well::registers_fit`: what is left of the words is all of them.
+-- Proof of `book_words::well::registers_fit`: each word's test.
 -- Assumes: nothing.
-use native.Mathlib.Omega.{arith}
-use Rattle.placed.proofs.FromLaws.{all_hold, one_fails, one_holds}
+use Rattle.std.proofs.Common.{rules, tests, ◌∙◌, arith}
+use Rattle.std.proofs.lemmas.Iterator.{YieldsList-from_slice}
+use Rattle.std.proofs.lemmas.Iterator.Search.{all_from_yields_List}
+use Rattle.bit_fields.specs.Bits.{in_bits}
+use Rattle.registers.specs.Words.{register_words}
+use Rattle.book_words.specs.Layout.{registers_at}
+use Rattle.book_words.proofs.ScanLaws.{part_all}
 use Rattle.book_words.proofs.well.registers_fit.Goals as goal
 
-pub returns-then-not-in_bits : goal.returns-then-not-in_bits
-returns-then-not-in_bits c = search one_fails
-
-pub loop-j-preserved : goal.loop-j-preserved
-loop-j-preserved c = (omega arith, search one_holds)
-
 pub returns : goal.returns
-returns c = search all_hold
+returns c =
+    all_from_yields_List _ _ _ _ c.all.ensures.ran (YieldsList-from_slice _ c.iter.ensures.rest) (λ x b q k. search (rules, tests))
+    ∙ part_all (λ word. in_bits word 32) c.args.book.now registers_at register_words (omega arith)

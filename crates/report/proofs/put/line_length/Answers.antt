@@ -5,10 +5,10 @@ use Rattle.report.proofs.ScanLaws.{cells_done, cells_summed, few_more, columns_f
 use Rattle.report.proofs.put.line_length.Goals as goal
 
 pub loop-column-init : goal.loop-column-init
-loop-column-init c = (omega arith, search columns_few, search line_counted, omega arith)
+loop-column-init c = (search columns_few, search line_counted, omega arith)
 
 pub loop-column-preserved : goal.loop-column-preserved
-loop-column-preserved c = (omega arith, omega arith, search cells_summed, search few_more)
+loop-column-preserved c = (omega arith, search cells_summed, search few_more)
 
 pub returns : goal.returns
 returns c = (search cells_done, omega arith)

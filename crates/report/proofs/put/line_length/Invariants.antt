@@ -8,7 +8,4 @@ use Rattle.report_cells.specs.Cells.{columns, cells_from, line_text}
 use Rattle.report.proofs.put.line_length.Given as goal
 
 abbrev pub invariant-loop-column : goal.invariant-loop-column
-invariant-loop-column l = (l.column ≤ l.n) × (l.n ≤ columns) × (l.sum + length (cells_from l.line (l.n - l.column) l.column) ≡ length (line_text l.line)) × (l.sum ≤ (cell_most + 1) * l.column)
-
-abbrev pub decreases-loop-column : goal.decreases-loop-column
-decreases-loop-column l = l.n - l.column
+invariant-loop-column l = (l.column-end ≤ columns) × (l.sum + length (cells_from l.line (l.column-end - l.column) l.column) ≡ length (line_text l.line)) × (l.sum ≤ (cell_most + 1) * l.column)

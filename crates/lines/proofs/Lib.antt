@@ -1,0 +1,2 @@
+-- The laws that the proofs of `lines` cite.
+pub mod TextLaws

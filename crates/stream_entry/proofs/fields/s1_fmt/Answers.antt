@@ -1,6 +1,0 @@
--- Proof of `stream_entry::fields::s1_fmt`: the bits of its word.
--- Assumes: nothing.
-use Rattle.stream_entry.proofs.fields.s1_fmt.Goals as goal
-
-pub returns : goal.returns
-returns c = cc
