@@ -20,14 +20,15 @@ use Rattle.registers.specs.Sizes.{refusal1}
 use Rattle.registers.specs.declared.Registers.{Registers}
 use Rattle.memory_image.specs.Extent.{extent_of, refusal2, address_top}
 use Rattle.memory_image.specs.declared.Extent.{Extent}
-use Rattle.lookup.specs.Lookup.{looked_up, answer_put}
+use Rattle.lookup.specs.Lookup.{looked_up, answer_put, answer_told}
 use Rattle.lookup.specs.declared.Looked.{Looked}
 use Rattle.book_words.specs.Layout.{slots_most, slots_of, key_of, other_extent}
 use Rattle.book_words.specs.Malformed.{refusal7}
 use Rattle.book.specs.Book.{Asks, open_says, slot_of, empty_slot, newly, now_holding, ask_result, ask_book, new_lookup, notice_says}
-use Rattle.book.specs.Into.{ask_put}
+use Rattle.book.specs.Into.{asked, ask_kept, ask_put}
 use Rattle.book.specs.declared.Asked.{Asked}
 use Rattle.book.specs.declared.Reply.TheVariants as reply
+use Rattle.book.specs.declared.Reply.{Reply}
 use Rattle.report.specs.Report.{report_says, report_text}
 use Rattle.book_history.proofs.AskedLaws.{refused_why}
 use Rattle.book_history.specs.Demand1.{OneOf2, OneOf3, AnswerOrNumber, HoldsWhatItHeld}
@@ -103,6 +104,19 @@ module _ (n : Refusal) where
       anew true (Ok outcome) is = let z : ◌≡◌ {A = ℕ} 0 1 = cc in absurd (omega arith)
       anew false (Ok outcome) is = refl
 
+  -- a call into an answer's words refuses where the call by value does
+  refused_told : (a : Result Outcome Refusal) → Err n ≡ answer_told a → a ≡ Err n
+  unfolding answer_told
+  refused_told (Err m) is = cc
+  refused_told (Ok outcome) is = let z : ◌≡◌ {A = ℕ} 0 1 = cc in absurd (omega arith)
+
+  refused_kept : (a : Result Reply Refusal) → Err n ≡ ask_kept a → a ≡ Err n
+  unfolding ask_kept
+  refused_kept (Err m) is = cc
+  refused_kept (Ok (reply.KeptBefore outcome)) is = let z : ◌≡◌ {A = ℕ} 0 1 = cc in absurd (omega arith)
+  refused_kept (Ok (reply.NewlyKept outcome)) is = let z : ◌≡◌ {A = ℕ} 0 1 = cc in absurd (omega arith)
+  refused_kept (Ok (reply.NotKept outcome)) is = let z : ◌≡◌ {A = ℕ} 0 1 = cc in absurd (omega arith)
+
 pub answer_or_number : (n : Refusal) → AnswerOrNumber n
 answer_or_number n =
     record {
@@ -111,6 +125,11 @@ answer_or_number n =
       asked_for = ask_number n;
       noticed = λ ws start size after promise. notice_number n ws start size promise.result;
       reported = λ ws before after promise. report_number n ws (length before) promise.result;
+      looks_into = λ r base memory request before after promise.
+          look_number n r base memory request (refused_told n (looked_up r base memory request).answer promise.result);
+      asks_into = λ ws base memory request before book after promise.
+          ask_number n ws base memory request (asked ws base memory request) book (record { result = refl; book = promise.book })
+          (refused_kept n (asked ws base memory request).reply promise.result);
     }
 
 pub holds_what_it_held : (n : Refusal) → HoldsWhatItHeld n
@@ -118,12 +137,17 @@ unfolding answer_put ask_put
 holds_what_it_held n =
     record {
       by_lookup = λ r base memory request before says after promise is. promise.words ∙ rw is;
+      looks_into = λ r base memory request before after promise.
+          promise.words ∙ rw (refused_told n (looked_up r base memory request).answer promise.result);
       opened = λ r e slots before after promise. rw (← promise.result) at promise.book;
       asked_for = λ ws base memory request told after promise is.
           promise.book
           ∙ ask_refused n ws base (length memory) request (new_lookup ws base memory request)
           (sym (ap (λ (a : Asked). a.reply) promise.result) ∙ is);
       asked_into = λ ws base memory request before says book after promise is.
+          (promise.book ∙ ask_refused n ws base (length memory) request (new_lookup ws base memory request) is, promise.words ∙ rw is);
+      asks_into = λ ws base memory request before book after promise.
+          let is = refused_kept n (asked ws base memory request).reply promise.result in
           (promise.book ∙ ask_refused n ws base (length memory) request (new_lookup ws base memory request) is, promise.words ∙ rw is);
       noticed = λ ws start size after promise. rw (← promise.result) at promise.book;
       reported = λ ws before after promise. rw (← promise.result) at promise.buffer;

@@ -197,7 +197,7 @@ module _ (r : Registers) (base : ℕ) (memory : List ℕ) (request : Request) wh
 
 -- an answer is proper and has a whole array, and a refusal a number from 1 to 3 and no list
 abbrev pub Shaped : Result Outcome Refusal → Pieces → Type 0
-Shaped (Err n) l = (refusal_number n ≤ 3) × (l ≡ none)
+Shaped (Err n) l = (1 ≤ refusal_number n) × ((refusal_number n ≤ 3) × (l ≡ none))
 Shaped (Ok outcome) l = ProperOutcome outcome × (length l.piece ≡ pieces_most)
 
 module _ (r : Registers) (base : ℕ) (memory : List ℕ) (request : Request) where
@@ -207,9 +207,9 @@ module _ (r : Registers) (base : ℕ) (memory : List ℕ) (request : Request) wh
   pub shaped : Shaped (looked_up r base memory request).answer (looked_up r base memory request).list
   unfolding looked_up
   shaped =
-      either Whole (refusal1 r) (omega arith, refl)
-      (either Whole (refusal2 (extent_of base memory)) (omega arith, refl)
-      (either Whole (refusal3 request) (omega arith, refl)
+      either Whole (refusal1 r) (omega arith, (omega arith, refl))
+      (either Whole (refusal2 (extent_of base memory)) (omega arith, (omega arith, refl))
+      (either Whole (refusal3 request) (omega arith, (omega arith, refl))
       (ruled_proper r base memory request, pieces_length (ruled r base memory request).list)))
 
   module _ {told : Result ⊤ Refusal} {after : List ℕ} (is : LooksInto (looked_up r base memory request) (replicate answer_words 0) told after) where
@@ -238,5 +238,5 @@ module _ (r : Registers) (base : ℕ) (memory : List ℕ) (request : Request) wh
         go :
             (a : Result Outcome Refusal) (l : Pieces) → record { answer = a; list = l } ≡ looked_up r base memory request → Shaped a l
             → Into (record { answer = a; list = l }) → record { answer = Err n; list = list } ≡ looked_up r base memory request
-        go (Err m) l same shape put = let alike : n ≡ m = cc (put.result) in rw (is_list, alike, ← shape.1) same
+        go (Err m) l same shape put = let alike : n ≡ m = cc (put.result) in rw (is_list, alike, ← shape.1.1) same
         go (Ok o) l same shape put = let z : ◌≡◌ {A = ℕ} 0 1 = cc (put.result) in absurd (omega arith)

@@ -15,7 +15,7 @@ pub struct Descriptor<'a> {
 }
 
 impl Descriptor<'_> {
-    // Word k; 0 where the descriptor does not lie wholly in the memory, or has none
+    // Word k; 0 where that word does not lie wholly in the memory, or a descriptor has none
     // such. It asks nothing of its caller.
     #[tactic(auto, using(crate::proofs::WordsLaws::word_ways))]
     pub fn word(self, k: usize) -> u64
