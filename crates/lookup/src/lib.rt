@@ -41,6 +41,7 @@ pub fn lookup(registers: Registers, memory: Memory, request: Request) -> Looked
 
 // The same into an answer's words: all of them; or a refusal, and the words as they were. This is the quick form: no
 // answer goes by value.
+#[inline(always)]
 pub fn look_into(
     words: &mut [u64; ANSWER_WORDS],
     registers: Registers,
