@@ -33,9 +33,10 @@ pub fn llobatelh_lookup(
 ) -> u64
     ensures { LooksUp (looked_up (registers_from registers.now strtab_base) base memory.now (request_from stream given substream)) answer.old result answer.new }
 {
-    let said = lookup::look_into(
+    let said = lookup::look_by_words(
         answer,
-        Registers::from_words(registers, strtab_base),
+        registers,
+        strtab_base,
         Memory {
             base,
             bytes: memory,

@@ -159,21 +159,24 @@ module _ (r : Registers) (base : ℕ) (memory : List ℕ) (request : Request) wh
       (sym (run_below base (2 ^ oas_size r) memory (lookup_rule r request) (lookup_every (λ n. 0 < n) (omega arith) (omega arith) r request)))
 
   pub answer_ruled :
-      {size limit : ℕ} → size ≡ oas_size r → limit ≡ 2 ^ size % 2 ^ 64 → {part : List ℕ} → part ≡ below base limit memory
+      {r' : Registers} → r' ≡ r → {size limit : ℕ} → size ≡ oas_size r' → limit ≡ 2 ^ size % 2 ^ 64 → {part : List ℕ} → part ≡ below base limit memory
       → {base' : ℕ} → base' ≡ base → (walked : Result Outcome Outcome) {listed : List ℕ}
-      → Walks base' part (lookup_rule r request) (replicate answer_words 0) (told_by walked) listed
+      → Walks base' part (lookup_rule r' request) (replicate answer_words 0) (told_by walked) listed
       → {outcome : Outcome} → outcome ≡ told_by walked → {after : List ℕ} → after ≡ outcome_put listed outcome
       → after ≡ words_of (ruled r base memory request).answer (pieces_of (ruled r base memory request).list)
-  answer_ruled is_size is_limit {part} is_part is_base walked walk' told put =
-      let same = ruled_below is_size is_limit is_part in
-      let walk = rw is_base at walk' in
+  answer_ruled is_r is_size is_limit {part} is_part is_base walked walk' told put =
+      let same = ruled_below (is_size ∙ ap oas_size is_r) is_limit is_part in
+      let walk = rw (is_base, is_r) at walk' in
       let few = ruled_few in
       let ran = walk_run base part (lookup_rule r request) walk (rw same few) in
       put
       ∙ rw (told, ran.0, ran.1, same) (put_words (pieces_of (ruled r base memory request).list) (ruled r base memory request).answer)
 
   -- the refusals in their order
-  module _ (before : List ℕ) {first : Bool} (is_first : first ≡ refusal1 r) where
+  module _ (before : List ℕ) {r' : Registers} (is_r : r' ≡ r) {first : Bool} (is_first' : first ≡ refusal1 r') where
+    is_first : first ≡ refusal1 r
+    is_first = is_first' ∙ ap refusal1 is_r
+
     pub refused_first : first ≡ true → LooksInto (looked_up r base memory request) before (Err refusal.Registers) before
     unfolding looked_up answer_told answer_put
     refused_first so = simp (← is_first, so) (record { result = refl; words = refl })

@@ -3,13 +3,14 @@
 #![tactic(auto)]
 
 ghost use Rattle.std.specs.Prelude.{◌≡◌};
+ghost use Rattle.registers.specs.Words.{registers_from};
 ghost use Rattle.lookup.specs.Lookup.{LooksInto, looked_up};
 ghost use Rattle.lookup.specs.Part.{SteHanded, ste_at};
 
 use answers::{ANSWER_WORDS, Outcome, Pieces, Refusal};
 use ids::Request;
 use memory_image::Memory;
-use registers::Registers;
+use registers::{REGISTER_WORDS, Registers};
 
 pub mod part;
 mod walk;
@@ -41,7 +42,6 @@ pub fn lookup(registers: Registers, memory: Memory, request: Request) -> Looked
 
 // The same into an answer's words: all of them; or a refusal, and the words as they were. This is the quick form: no
 // answer goes by value.
-#[inline(always)]
 pub fn look_into(
     words: &mut [u64; ANSWER_WORDS],
     registers: Registers,
@@ -50,6 +50,23 @@ pub fn look_into(
 ) -> Result<(), Refusal>
     ensures { LooksInto (looked_up registers memory.entry.base memory.entry.bytes.now request) words.old result words.new }
 {
+    let narrow = registers.words();
+    look_by_words(words, &narrow, registers.strtab_base, memory, request)
+}
+
+// The same of registers as C lends them: the walk reads each where it lies. Put together before it, they would be read as one of
+// sixteen bytes, for which a processor waits where the caller has just written them one by one. The refusals are tested in the caller.
+#[inline(always)]
+pub fn look_by_words(
+    words: &mut [u64; ANSWER_WORDS],
+    narrow: &[u32; REGISTER_WORDS],
+    strtab_base: u64,
+    memory: Memory,
+    request: Request,
+) -> Result<(), Refusal>
+    ensures { LooksInto (looked_up (registers_from narrow.now strtab_base) memory.entry.base memory.entry.bytes.now request) words.old result words.new }
+{
+    let registers = Registers::from_words(narrow, strtab_base);
     if registers.refused() {
         return Err(Refusal::Registers);
     }
@@ -59,7 +76,7 @@ pub fn look_into(
     if request.refused() {
         return Err(Refusal::Substream);
     }
-    walk::answer(words, registers, memory, request);
+    walk::answer(words, narrow, strtab_base, memory, request);
     Ok(())
 }
 

@@ -1,6 +1,5 @@
 -- Proof of `lookup::lookup`: the answer, or the refusal, read back from the words.
 -- Assumes: nothing.
-use Rattle.std.specs.Prelude.{Ok, Err}
 use borrow.Author.Rules.{rules}
 use Rattle.lookup.proofs.RuledLaws.{looked_is, looked_refused}
 use Rattle.lookup.proofs.lookup.Goals as goal
