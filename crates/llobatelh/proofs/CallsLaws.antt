@@ -19,7 +19,8 @@ use Rattle.memory_image.specs.declared.Extent.{Extent}
 use Rattle.answers.specs.Outcome.{recorded}
 use Rattle.answers.specs.Refusals.{refusal_number}
 use Rattle.answers.specs.declared.Outcome.{Outcome}
-use Rattle.lookup.specs.Lookup.{looked_up, answer_says, answer_told, LooksUp, LooksInto}
+use Rattle.lookup.specs.declared.Looked.{Looked}
+use Rattle.lookup.specs.Lookup.{answer_says, answer_told, LooksUp, LooksInto}
 use Rattle.lookup.specs.Part.{ste_at}
 use Rattle.book.specs.Book.{Opened, Noticed}
 use Rattle.book.specs.Into.{asked, ask_kept, ask_says, kept_number, AsksBook, AsksInto}
@@ -37,12 +38,9 @@ looks (Err n) = refl
 looks (Ok outcome) = refl
 
 pub looks_up :
-    {r r' : Registers} → r' ≡ r → {q q' : Request} → q' ≡ q → (base : ℕ) (memory before : List ℕ) {said : Result ⊤ Refusal} {after : List ℕ}
-    → LooksInto (looked_up r' base memory q') before said after → {says : ℕ} → says ≡ said_says said
-    → LooksUp (looked_up r base memory q) before says after
-looks_up {r} is_r {q} is_q base memory before into is =
-    let told = rw (is_r, is_q) at into in
-    record { result = is ∙ rw told.result (looks (looked_up r base memory q).answer); words = told.words }
+    (looked : Looked) (before : List ℕ) {said : Result ⊤ Refusal} {after : List ℕ} → LooksInto looked before said after
+    → {says : ℕ} → says ≡ said_says said → LooksUp looked before says after
+looks_up looked before into is = record { result = is ∙ rw into.result (looks looked.answer); words = into.words }
 
 module _ {q q' : Request} (is_q : q' ≡ q) (ws : List ℕ) (base : ℕ) (memory before : List ℕ) {ws' after : List ℕ} where
   pub ask_refused :

@@ -33,15 +33,15 @@ pub fn llobatelh_lookup(
 ) -> u64
     ensures { LooksUp (looked_up (registers_from registers.now strtab_base) base memory.now (request_from stream given substream)) answer.old result answer.new }
 {
-    let said = lookup::look_by_words(
+    let said = lookup::look_by_numbers(
         answer,
         registers,
         strtab_base,
-        Memory {
-            base,
-            bytes: memory,
-        },
-        Request::from_numbers(stream, given, substream),
+        base,
+        memory,
+        stream,
+        given,
+        substream,
     );
     number_of(said)
 }

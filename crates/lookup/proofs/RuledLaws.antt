@@ -23,6 +23,10 @@ use Rattle.bit_fields.proofs.BitsLaws.{power_is}
 use Rattle.bit_fields.proofs.ChoiceLaws.{either}
 use Rattle.ids.specs.Ids.{refusal3}
 use Rattle.ids.specs.declared.Request.{Request}
+use Rattle.ids.specs.Numbers.{request_from, given_of, number_of}
+use Rattle.ids.proofs.NumbersLaws.{numbers_back}
+use Rattle.registers.specs.Words.{registers_from, words_of_registers}
+use Rattle.registers.proofs.WordsLaws.{words_back}
 use Rattle.registers.specs.Sizes.{refusal1, oas_size}
 use Rattle.registers.specs.declared.Registers.{Registers}
 use Rattle.registers.proofs.SizesLaws.{oas_at_most}
@@ -159,14 +163,14 @@ module _ (r : Registers) (base : ℕ) (memory : List ℕ) (request : Request) wh
       (sym (run_below base (2 ^ oas_size r) memory (lookup_rule r request) (lookup_every (λ n. 0 < n) (omega arith) (omega arith) r request)))
 
   pub answer_ruled :
-      {r' : Registers} → r' ≡ r → {size limit : ℕ} → size ≡ oas_size r' → limit ≡ 2 ^ size % 2 ^ 64 → {part : List ℕ} → part ≡ below base limit memory
+      {size limit : ℕ} → size ≡ oas_size r → limit ≡ 2 ^ size % 2 ^ 64 → {part : List ℕ} → part ≡ below base limit memory
       → {base' : ℕ} → base' ≡ base → (walked : Result Outcome Outcome) {listed : List ℕ}
-      → Walks base' part (lookup_rule r' request) (replicate answer_words 0) (told_by walked) listed
+      → Walks base' part (lookup_rule r request) (replicate answer_words 0) (told_by walked) listed
       → {outcome : Outcome} → outcome ≡ told_by walked → {after : List ℕ} → after ≡ outcome_put listed outcome
       → after ≡ words_of (ruled r base memory request).answer (pieces_of (ruled r base memory request).list)
-  answer_ruled is_r is_size is_limit {part} is_part is_base walked walk' told put =
-      let same = ruled_below (is_size ∙ ap oas_size is_r) is_limit is_part in
-      let walk = rw (is_base, is_r) at walk' in
+  answer_ruled is_size is_limit {part} is_part is_base walked walk' told put =
+      let same = ruled_below is_size is_limit is_part in
+      let walk = rw is_base at walk' in
       let few = ruled_few in
       let ran = walk_run base part (lookup_rule r request) walk (rw same few) in
       put
@@ -186,17 +190,28 @@ module _ (r : Registers) (base : ℕ) (memory : List ℕ) (request : Request) wh
       unfolding looked_up answer_told answer_put
       refused_second so = simp (← is_first, passed, ← is_second, so) (record { result = refl; words = refl })
 
-      module _ (passed' : second ≡ false) {third : Bool} (is_third : third ≡ refusal3 request) where
+      module _ (passed' : second ≡ false) {q' : Request} (is_q : q' ≡ request) {third : Bool} (is_third' : third ≡ refusal3 q') where
+        is_third : third ≡ refusal3 request
+        is_third = is_third' ∙ ap refusal3 is_q
+
         pub refused_third : third ≡ true → LooksInto (looked_up r base memory request) before (Err refusal.Substream) before
         unfolding looked_up answer_told answer_put
         refused_third so = simp (← is_first, passed, ← is_second, passed', ← is_third, so) (record { result = refl; words = refl })
 
         pub answered_last :
-            third ≡ false → {after : List ℕ} → after ≡ words_of (ruled r base memory request).answer (pieces_of (ruled r base memory request).list)
+            third ≡ false → {after : List ℕ} → after ≡ words_of (ruled r' base memory q').answer (pieces_of (ruled r' base memory q').list)
             → LooksInto (looked_up r base memory request) before (Ok tt) after
         unfolding looked_up answer_told answer_put
         answered_last so is =
-            simp (← is_first, passed, ← is_second, passed', ← is_third, so) (record { result = refl; words = is })
+            simp (← is_first, passed, ← is_second, passed', ← is_third, so) (record { result = refl; words = rw (is_r, is_q) at is })
+
+  -- values are read back from the numbers that they are told by
+  pub into_back :
+      {narrow : List ℕ} → narrow ≡ words_of_registers r → {given : ℕ} → given ≡ given_of request.substream
+      → {number : ℕ} → number ≡ number_of request.substream → {before after : List ℕ} {told : Result ⊤ Refusal}
+      → LooksInto (looked_up (registers_from narrow r.strtab_base) base memory (request_from request.stream.number given number)) before told after
+      → LooksInto (looked_up r base memory request) before told after
+  into_back is_narrow is_given is_number into = rw (is_narrow, is_given, is_number, numbers_back request, words_back r) at into
 
 -- an answer is proper and has a whole array, and a refusal a number from 1 to 3 and no list
 abbrev pub Shaped : Result Outcome Refusal → Pieces → Type 0

@@ -3,6 +3,7 @@
 #![tactic(auto)]
 
 ghost use Rattle.std.specs.Prelude.{◌≡◌};
+ghost use Rattle.ids.specs.Numbers.{request_from};
 ghost use Rattle.registers.specs.Words.{registers_from};
 ghost use Rattle.lookup.specs.Lookup.{LooksInto, looked_up};
 ghost use Rattle.lookup.specs.Part.{SteHanded, ste_at};
@@ -51,32 +52,45 @@ pub fn look_into(
     ensures { LooksInto (looked_up registers memory.entry.base memory.entry.bytes.now request) words.old result words.new }
 {
     let narrow = registers.words();
-    look_by_words(words, &narrow, registers.strtab_base, memory, request)
+    look_by_numbers(
+        words,
+        &narrow,
+        registers.strtab_base,
+        memory.base,
+        memory.bytes,
+        request.stream.number,
+        request.given(),
+        request.number(),
+    )
 }
 
-// The same of registers as C lends them: the walk reads each where it lies. Put together before it, they would be read as one of
-// sixteen bytes, for which a processor waits where the caller has just written them one by one. The refusals are tested in the caller.
-#[inline(always)]
-pub fn look_by_words(
+// The same of what C lends, number by number: the values are put together here and nowhere before. A caller that does it stores them, and the walk
+// waits for them (docs/PERFORMANCE.md).
+pub fn look_by_numbers(
     words: &mut [u64; ANSWER_WORDS],
     narrow: &[u32; REGISTER_WORDS],
     strtab_base: u64,
-    memory: Memory,
-    request: Request,
+    base: u64,
+    bytes: &[u8],
+    stream: u32,
+    given: u8,
+    substream: u64,
 ) -> Result<(), Refusal>
-    ensures { LooksInto (looked_up (registers_from narrow.now strtab_base) memory.entry.base memory.entry.bytes.now request) words.old result words.new }
+    ensures { LooksInto (looked_up (registers_from narrow.now strtab_base) base bytes.now (request_from stream given substream)) words.old result words.new }
 {
     let registers = Registers::from_words(narrow, strtab_base);
     if registers.refused() {
         return Err(Refusal::Registers);
     }
+    let memory = Memory { base, bytes };
     if memory.refused() {
         return Err(Refusal::Memory);
     }
+    let request = Request::from_numbers(stream, given, substream);
     if request.refused() {
         return Err(Refusal::Substream);
     }
-    walk::answer(words, narrow, strtab_base, memory, request);
+    walk::answer(words, registers, memory, request);
     Ok(())
 }
 

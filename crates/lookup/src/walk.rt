@@ -1,7 +1,6 @@
 // The walk of a lookup: start at `answer`.
 // Meets the rules of specs/Lookup.antt. The list grows in an answer's words, which each stage lends to the next; each stage
 // has one caller, so that all of them are compiled into one.
-ghost use Rattle.registers.specs.Words.{registers_from};
 ghost use Rattle.std.specs.Prelude.{◌≡◌};
 ghost use Rattle.answers.specs.Pieces.{pieces_of};
 ghost use Rattle.answers.specs.Walk.{Walks};
@@ -13,20 +12,18 @@ use answers::{ANSWER_WORDS, Outcome};
 use context_entry::fields::Cd;
 use ids::Request;
 use memory_image::{Fetched, Memory};
-use registers::{REGISTER_WORDS, Registers};
+use registers::Registers;
 use stream_entry::fields::Ste;
 
 // The whole answer. Only what lies below 2^(OAS size) of the memory is walked.
 pub fn answer(
     words: &mut [u64; ANSWER_WORDS],
-    narrow: &[u32; REGISTER_WORDS],
-    strtab_base: u64,
+    registers: Registers,
     memory: Memory,
     request: Request,
 )
-    ensures { words.new ≡ words_of (ruled (registers_from narrow.now strtab_base) memory.entry.base memory.entry.bytes.now request).answer (pieces_of (ruled (registers_from narrow.now strtab_base) memory.entry.base memory.entry.bytes.now request).list) }
+    ensures { words.new ≡ words_of (ruled registers memory.entry.base memory.entry.bytes.now request).answer (pieces_of (ruled registers memory.entry.base memory.entry.bytes.now request).list) }
 {
-    let registers = Registers::from_words(narrow, strtab_base);
     let limit = bit_fields::power(registers.oas_size());
     let part = memory.below(limit);
     *words = [0u64; ANSWER_WORDS];

@@ -1,8 +1,8 @@
--- Proof of `lookup::look_by_words`: the refusals in their order, and the answer.
+-- Proof of `lookup::look_by_numbers`: the refusals in their order, and the answer.
 -- Assumes: nothing.
 use borrow.Author.Rules.{rules}
 use Rattle.lookup.proofs.RuledLaws.{refused_first, refused_second, refused_third, answered_last}
-use Rattle.lookup.proofs.look_by_words.Goals as goal
+use Rattle.lookup.proofs.look_by_numbers.Goals as goal
 
 pub returns-then-refused : goal.returns-then-refused
 returns-then-refused c = search (rules, refused_first)
