@@ -5,6 +5,7 @@
 --     limit_is                   2^(OAS size), as the code computes it
 --     answer_ruled               the walk, with its outcome put before its list, is what the rules give
 --     refused_first .. answered_last  the refusals in their order, and the answer
+--     into_back                  values are read back from the numbers that they are told by
 --     shaped                     an answer is proper and has a whole array, and a refusal a number from 1 to 3 and no list
 --     looked_is, looked_refused  an answer, or a refusal, read back from the words
 -- Assumes: nothing.
