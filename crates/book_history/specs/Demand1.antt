@@ -36,7 +36,7 @@ pub record AnswerOrNumber (n : Refusal) : Type 0 where
   pub noticed :
       (ws : List ℕ) (start size : ℕ) (after : List ℕ) → Noticed ws start size (Err n) after → OneOf2 7 5 (refusal_number n)
   pub reported : (ws before after : List ℕ) → Reported ws before (Err n) after → OneOf2 7 8 (refusal_number n)
-  -- by `look_into` and `ask_into`
+  -- by `look_into`, `look_by_numbers` and `ask_into`
   pub looks_into :
       (r : Registers) (base : ℕ) (memory : List ℕ) (request : Request) (before after : List ℕ)
       → LooksInto (looked_up r base memory request) before (Err n) after → OneOf3 1 2 3 (refusal_number n)
@@ -50,7 +50,7 @@ pub record HoldsWhatItHeld (n : Refusal) : Type 0 where
       (r : Registers) (base : ℕ) (memory : List ℕ) (request : Request) (before : List ℕ) (says : ℕ) (after : List ℕ)
       → LooksUp (looked_up r base memory request) before says after → (looked_up r base memory request).answer ≡ Err n
       → after ≡ before
-  -- and by `look_into`
+  -- and by `look_into` and `look_by_numbers`
   pub looks_into :
       (r : Registers) (base : ℕ) (memory : List ℕ) (request : Request) (before after : List ℕ)
       → LooksInto (looked_up r base memory request) before (Err n) after → after ≡ before
